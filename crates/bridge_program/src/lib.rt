@@ -1,0 +1,2 @@
+//! The call stack of a participant, and the rows that refuse an entry before its frame is looked at.
+#![tactic(auto)]

@@ -1,0 +1,11 @@
+pub mod Acts
+pub mod Calls
+pub mod Context
+pub mod Ecall
+pub mod Ocall
+pub mod Refusal
+pub mod Reported
+pub mod Result
+pub mod Served
+pub mod Tcs
+pub mod Thread

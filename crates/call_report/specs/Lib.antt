@@ -1,0 +1,2 @@
+pub mod RecordList
+pub mod Report
