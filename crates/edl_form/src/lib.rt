@@ -1,0 +1,2 @@
+//! The first form of EDL files that the runner takes.
+#![tactic(auto)]

@@ -1,0 +1,2 @@
+//! The first form of scripts that the runner takes.
+#![tactic(auto)]
