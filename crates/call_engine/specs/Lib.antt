@@ -2,6 +2,7 @@ pub mod Acts
 pub mod Calls
 pub mod Context
 pub mod Ecall
+pub mod Narrow
 pub mod Ocall
 pub mod Refusal
 pub mod Reported
