@@ -1,5 +1,5 @@
 -- Numbers and the bytes that they are, the lowest first.
-use Rattle.std.proofs.Common.{ℕ, zero, suc, ◌*◌, ◌/◌, ◌%◌, ◌^◌, ◌<◌, ◌≤◌, ◌≡◌, List, [], ◌∷◌, length, drop, All, refl, ap, arith, length-drop}
+use Rattle.std.proofs.Common.{ℕ, zero, suc, ◌+◌, ◌*◌, ◌/◌, ◌%◌, ◌^◌, ◌<◌, ◌≤◌, ◌≡◌, List, [], ◌∷◌, length, drop, All, refl, ap, arith, length-drop}
 use Rattle.std.proofs.Math.Nat.{pow-suc, pow-le-pow_right, mod-add-div, div-lt_iff_lt-mul}
 use Rattle.std.proofs.lemmas.Nat.{mod_below}
 use Rattle.std.proofs.lemmas.List.Elements.{All-nil, All-cons, All-head, All-tail, All-drop}
@@ -35,6 +35,16 @@ little_endian_of_low_bytes (suc k) n h =
 -- eight low bytes are the whole of a number of 64 bits
 pub little_endian_of_eight : (n : ℕ) → n < 2 ^ 64 → little_endian (low_bytes 8 n) ≡ n
 little_endian_of_eight n h = little_endian_of_low_bytes 8 n h
+
+-- the low bytes of the number that bytes are, as many as they are, are those bytes
+pub low_bytes_of_little_endian : (bytes : List ℕ) → All (λ b. b < 256) bytes → low_bytes (length bytes) (little_endian bytes) ≡ bytes
+low_bytes_of_little_endian [] h = refl
+low_bytes_of_little_endian (b ∷ bytes) h =
+    let here : b < 256 = All-head (λ x. x < 256) b bytes h in
+    let rest : low_bytes (length bytes) (little_endian bytes) ≡ bytes = low_bytes_of_little_endian bytes (All-tail (λ x. x < 256) b bytes h) in
+    let low : (b + 256 * little_endian bytes) % 256 ≡ b = omega (arith, here) in
+    let high : (b + 256 * little_endian bytes) / 256 ≡ little_endian bytes = omega (arith, here) in
+    rw (low, high, rest)
 
 -- a number that is read from less than eight bytes has room for one byte more
 pub little_endian_has_room : (bytes : List ℕ) (i : ℕ) → All (λ b. b < 256) bytes → length bytes ≤ 8 → 0 < i → little_endian (drop i bytes) < 2 ^ 56

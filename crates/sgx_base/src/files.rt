@@ -1,11 +1,17 @@
 //! Files by their names, and what may go wrong with them.
 
 use std::alloc::Global;
+use thiserror::Error;
+
+/// The most bytes of a file that is read: 128 MiB.
+pub(crate) const MAX_FILE_SIZE: usize = 134_217_728;
 
 /// Why a file was not read or written.
-#[derive(Clone, Copy, Debug, PartialEq, Eq)]
+#[derive(Clone, Copy, Debug, PartialEq, Eq, Error)]
 pub enum FileFault {
+    #[error("a file could not be read or written")]
     Failed,
+    #[error("out of memory")]
     Memory,
 }
 
@@ -38,7 +44,7 @@ pub trait Files {
         ensures small { IfOk result (λ file. IfSome file (λ v. vec_len v ≤ max_file_size)) };
 
     /// Writes a file whole. After an Err nothing is told of this file; all others stay.
-    fn write(&mut self, name: &str, bytes: &[u8]) -> Result<(), FileFault>
+    fn write(&mut self, alloc: Global, name: &str, bytes: &[u8]) -> Result<(), FileFault>
         ensures told { is_some (contents self.new) ≡ is_some (contents self.old) }
         ensures read_faults_kept { read_faults self.new ≡ read_faults self.old }
         ensures misses_kept { misses self.new ≡ misses self.old }

@@ -1,9 +1,13 @@
 //! Where texts are written.
 
+use thiserror::Error;
+
 /// Why a piece was not written whole.
-#[derive(Clone, Copy, Debug, PartialEq, Eq)]
+#[derive(Clone, Copy, Debug, PartialEq, Eq, Error)]
 pub enum SinkFault {
+    #[error("a text could not be written")]
     Failed,
+    #[error("out of memory")]
     Memory,
 }
 
