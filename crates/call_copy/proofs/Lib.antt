@@ -1,0 +1,4 @@
+pub mod CopyLaws
+pub mod CutLaws
+pub mod Fetches
+pub mod TextLaws
