@@ -1,0 +1,3 @@
+mod EcallLaws
+mod OcallLaws
+mod TextLaws

@@ -1,0 +1,58 @@
+//! Strings among bytes, whose units have 1 byte or 4.
+ghost use Rattle.std.specs.Prelude.{◌≡◌, ◌≤◌, length, OnOk, IfSome};
+ghost use Rattle.sgx_base.specs.Texts.{terminated_length as terminated_length_of, is_zero_unit as is_zero_unit_of};
+ghost use Rattle.call_report.specs.Report.{as_copied, put_length as put_length_of};
+
+use attr_rules::Class;
+use std::alloc::AllocError;
+
+/// Whether each byte of a unit is 0.
+fn is_zero_unit(bytes: &[u8]) -> bool
+    ensures { result ≡ is_zero_unit_of bytes.now }
+{
+    bytes.iter().all(|byte| *byte == 0)
+}
+
+/// The length up to the first unit 0 and with it, where there is one.
+pub(crate) fn terminated_length(unit: u32, bytes: &[u8]) -> Option<usize>
+    ensures length { result ≡ terminated_length_of unit bytes.now }
+    ensures within { IfSome result (λ n. n ≤ length bytes.now) }
+{
+    let unit = unit as usize;
+    if unit == 0 {
+        return None;
+    }
+    for number in 0..bytes.len() / unit {
+        let start = number * unit;
+        if is_zero_unit(&bytes[start..start + unit]) {
+            return Some(start + unit);
+        }
+    }
+    None
+}
+
+/// Sets the last unit of a string to 0; other bytes stay.
+pub(crate) fn end_copied(class: &Class, bytes: &mut Vec<u8>) -> Result<(), AllocError>
+    ensures { OnOk result (bytes.new.items ≡ as_copied class.now bytes.old.items) }
+{
+    if class.is_text() {
+        let unit = class.unit() as usize;
+        let kept = bytes.len().saturating_sub(unit);
+        bytes.truncate(kept);
+        bytes.resize(kept + unit, 0)
+    } else {
+        Ok(())
+    }
+}
+
+/// How many bytes were put back: of a string those up to its first unit 0.
+pub(crate) fn put_length(class: &Class, bytes: &[u8]) -> usize
+    ensures length { result ≡ put_length_of class.now bytes.now }
+    ensures within { result ≤ length bytes.now }
+{
+    if class.is_text() {
+        terminated_length(class.unit(), bytes).unwrap_or(bytes.len())
+    } else {
+        bytes.len()
+    }
+}
