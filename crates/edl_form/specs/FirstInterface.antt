@@ -1,6 +1,6 @@
 -- What is known of an interface that was read from a file of the first form: one public ECALL, which takes numbers of 64 bits and one
 -- buffer that is copied in, and returns a number of 64 bits.
-use Rattle.std.specs.Prelude.{ℕ, ◌≡◌, ◌+◌, ◌*◌, ◌≤◌, ◌⊎◌, Bool, true, false, List, [], ◌∷◌, length, All, Some, slice_get}
+use Rattle.std.specs.Prelude.{ℕ, ◌≡◌, ◌+◌, ◌*◌, ◌≤◌, ◌⊎◌, true, false, [], ◌∷◌, length, All, Some, slice_get}
 use Rattle.sgx_base.specs.declared.Passing.TheVariants.{Inward}
 use Rattle.attr_rules.specs.declared.Plain.{Plain}
 use Rattle.attr_rules.specs.declared.Amount.TheVariants.{Number, Param as of_param}

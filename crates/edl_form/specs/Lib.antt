@@ -1,1 +1,4 @@
 pub mod FirstInterface
+pub mod Tokens
+pub mod Reading
+pub mod Form

@@ -1,1 +1,4 @@
 pub mod FirstScript
+pub mod Words
+pub mod Line
+pub mod Form
