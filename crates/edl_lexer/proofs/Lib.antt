@@ -1,0 +1,5 @@
+pub mod Closing
+pub mod Divided
+pub mod Longest
+pub mod Reading
+pub mod Turns
