@@ -18,13 +18,16 @@ use interface::interface_of;
 use sgx_base::Name;
 use sqlite_items::Items;
 use std::alloc::{AllocError, Global};
+use thiserror::Error;
 use tokens::Tokens;
 
 /// Why a file gives no interface.
-#[derive(Clone, Copy, Debug, PartialEq, Eq)]
+#[derive(Clone, Copy, Debug, PartialEq, Eq, Error)]
 pub enum EdlFormFault {
     /// The file is not of the first form.
+    #[error("not of the first form")]
     OtherForm,
+    #[error("out of memory")]
     Memory,
 }
 
