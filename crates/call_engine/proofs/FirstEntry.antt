@@ -17,20 +17,16 @@ use Rattle.call_engine.specs.Context.{Context, context_in_ecall}
 use Rattle.call_engine.specs.Refusal.{field_rows}
 use Rattle.call_engine.specs.Result.{and_then_ok, go_on_if_ok}
 use Rattle.call_engine.specs.Ecall.{is_temp, Copies, copies_in, Ocalls, Finished, interpret, body_of, actions_of, Answered, put_answer, body_and_answer, loaded_entry, entered, shape_of}
-use Rattle.call_engine.specs.Narrow.{IsFirstMachine}
+use Rattle.call_engine.specs.Narrow.{IsFirstMachine, answered_at, one_block, first_value}
 use Rattle.edl_form.specs.FirstInterface.{IsFirstFunction}
 use Rattle.script_form.specs.FirstScript.{sum_actions}
 use Rattle.word_port.specs.declared.RunFull.TheVariants.{Steps}
 use Rattle.word_port.specs.Port.{PortState}
 use Rattle.word_port.specs.Limits.{Progress, progress}
 use Rattle.word_port.specs.Runs.{Makes, StopsFull, Reaches, Runs, StopsAt}
-use Rattle.word_port.proofs.Laws.{and_then-assoc, runs_ret}
+use Rattle.word_port.proofs.Laws.{and_then-assoc, runs_ret, makes_ret, makes_then, full_first}
 use Rattle.word_port.proofs.EventLaws.{place_then, steps_then, place_stop, steps_stop_then, steps_full_then}
 use std.Path.{fun_ext}
-
--- the copies with one block, null or not
-abbrev pub one_block : Option (List ℕ) → ℕ → Copies
-one_block block room = record { blocks = block ∷ []; room = room }
 
 -- the one buffer's copy
 abbrev pub first_copies : (f : Function) → IsFirstFunction f → List ℕ → ℕ → Interaction (Result Copies Status)
@@ -42,15 +38,42 @@ first_copies f first frame room =
 pub first_copies_are : (f : Function) (first : IsFirstFunction f) (frame : List ℕ) (room : ℕ) → copies_in f frame room (marshalled f) ≡ first_copies f first frame room
 first_copies_are f first frame room = rw first.one_buffer refl
 
--- the bytes of a block, none where it is null
-abbrev pub bytes_of : Option (List ℕ) → List ℕ
-bytes_of None = []
-bytes_of (Some bytes) = bytes
+module _ (f : Function) (first : IsFirstFunction f) (frame : List ℕ) (room : ℕ) where
+  -- a null pointer or no bytes
+  pub copies_null : (port : PortState) → copied_length f frame first.buffer ≡ 0 → Makes (copies_in f frame room (marshalled f)) port port (Ok (one_block None room))
+  copies_null port none =
+      let nothing : first_copies f first frame room ≡ ret (Ok (one_block None room)) = rw none refl in
+      subst (λ t. Makes t port port (Ok (one_block None room))) (sym (first_copies_are f first frame room ∙ nothing)) (makes_ret _ port)
 
--- the value of a body of the first form over its one block
-abbrev pub first_value : List Action → Option (List ℕ) → ℕ
-first_value [] block = 0
-first_value (action ∷ rest) block = sum (bytes_of block)
+  -- the copy of a parameter, where there is one
+  abbrev copy : Interaction (Result (List ℕ) Status)
+  copy = copy_in (shape_of first.buffer.class) (address_in frame first.buffer) (length_in f frame first.buffer) room
+
+  abbrev copied : List ℕ → Interaction (Result Copies Status)
+  copied bytes = ret (Ok (one_block (Some bytes) (room - rounded_size (length bytes))))
+
+  some_copies : (copied_length f frame first.buffer == 0) ≡ false → copies_in f frame room (marshalled f) ≡ and_then copy (go_on_if_ok copied)
+  some_copies some =
+      let one : first_copies f first frame room ≡ and_then copy (go_on_if_ok copied) = rw some refl in
+      first_copies_are f first frame room ∙ one
+
+  module _ (some : (copied_length f frame first.buffer == 0) ≡ false) (old new : PortState) where
+    -- a copy
+    pub copies_block : (bytes : List ℕ) → Makes copy old new (Ok bytes)
+        → Makes (copies_in f frame room (marshalled f)) old new (Ok (one_block (Some bytes) (room - rounded_size (length bytes))))
+    copies_block bytes made =
+        subst (λ t. Makes t old new (Ok (one_block (Some bytes) (room - rounded_size (length bytes))))) (sym (some_copies some))
+        (makes_then copy (go_on_if_ok copied) old new new (Ok bytes) _ made (makes_ret _ new))
+
+    -- its refusal
+    pub copies_refused : (status : Status) → Makes copy old new (Err status) → Makes (copies_in f frame room (marshalled f)) old new (Err status)
+    copies_refused status made =
+        subst (λ t. Makes t old new (Err status)) (sym (some_copies some))
+        (makes_then copy (go_on_if_ok copied) old new new (Err status) _ made (makes_ret _ new))
+
+    -- the log is full in it
+    pub copies_stop : StopsFull copy old new → StopsFull (copies_in f frame room (marshalled f)) old new
+    copies_stop stopped = subst (λ t. StopsFull t old new) (sym (some_copies some)) (full_first copy (go_on_if_ok copied) old new stopped)
 
 -- a body of the first form ends at once
 first_run : (m : Machine) (ocalls : Ocalls) (cx : Context) (values : List ℕ) (block : Option (List ℕ)) (room : ℕ) (actions : List Action)
@@ -82,10 +105,6 @@ put_return : (f : Function) (first : IsFirstFunction f) (address : ℕ) (frame :
     → put_answer f address frame (record { value = value; blocks = block ∷ []; records = [] }) ≡ and_then (stores Enclave address (low_bytes 8 value)) (λ stored. ret tt)
 put_return f first address frame value None = rw (first.returns, first.one_buffer) refl
 put_return f first address frame value (Some bytes) = rw (first.returns, first.one_buffer, first.buffer_is) refl
-
--- an answered entry of which nothing else is recorded
-abbrev pub answered_at : ℕ → Answered
-answered_at turn = record { turn = turn; records = [] }
 
 -- what is left of an entry once its one block is copied in
 abbrev pub first_answer : List Action → ℕ → Option (List ℕ) → Interaction (Result Answered Status)

@@ -4,9 +4,11 @@ pub mod Context
 pub mod Ecall
 pub mod Narrow
 pub mod Ocall
+pub mod Prepared
 pub mod Refusal
 pub mod Reported
 pub mod Result
+pub mod Run
 pub mod Served
 pub mod Tcs
 pub mod Thread
