@@ -118,7 +118,7 @@ mod tests {
     /// of the frame's 24 bytes and the buffer's 3, and the 8 stores of the return.
     #[test]
     fn one_call_has_its_steps_and_its_record(rt: HostRuntime) -> Result<(), Fail> {
-        let mut files = MemFiles::new(rt.alloc(), [].as_slice())?;
+        let mut files = MemFiles::new(rt.alloc(), &[])?;
         files.put(
             "a.edl",
             b"enclave { trusted { public uint64_t f([in, size=len] const uint8_t* buf, size_t len); }; };".as_slice(),
@@ -127,14 +127,7 @@ mod tests {
             "s.txt",
             b"bytes 0x10000 010203\nbody f {\nsum r0 buf\nreturn r0\n}\ncall f(@0x10000, 3)\n".as_slice(),
         )?;
-        let machine = prepare(
-            rt.alloc(),
-            &mut files,
-            [].as_slice(),
-            "a.edl",
-            "s.txt",
-            false,
-        )?;
+        let machine = prepare(rt.alloc(), &mut files, &[], "a.edl", "s.txt", false)?;
         let mut port = first_port(rt.alloc(), &machine)?;
         let mut tcs = first_tcs(rt.alloc(), machine.script.settings)?;
         let mut records = Records::new(rt.alloc(), RECORD_LIMIT)?;
