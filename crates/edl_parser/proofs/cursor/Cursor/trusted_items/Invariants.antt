@@ -1,0 +1,10 @@
+use Rattle.std.proofs.Common.{◌≡◌, length}
+use Rattle.edl_parser.specs.Parser as parse
+use Rattle.edl_parser.proofs.Loops.{with_file}
+use Rattle.edl_parser.proofs.cursor.Cursor.trusted_items.Given as goal
+
+abbrev pub invariant-loop-alloc : goal.invariant-loop-alloc
+invariant-loop-alloc l = with_file l.file (parse.many parse.begins_trusted parse.trusted_item l.self) ≡ parse.items parse.begins_trusted parse.trusted_item l.initial.self
+
+abbrev pub decreases-loop-alloc : goal.decreases-loop-alloc
+decreases-loop-alloc l = length l.self

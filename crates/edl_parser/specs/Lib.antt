@@ -1,0 +1,10 @@
+pub mod Symbols
+pub mod Production
+pub mod Grammar
+pub mod Sentence
+pub mod Files
+pub mod Parser
+pub mod Bounds
+pub mod Reads
+pub mod Depth
+pub mod Examples
