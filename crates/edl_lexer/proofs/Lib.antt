@@ -3,3 +3,4 @@ pub mod Divided
 pub mod Longest
 pub mod Reading
 pub mod Turns
+pub mod Within

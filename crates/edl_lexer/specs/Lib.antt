@@ -1,3 +1,4 @@
+pub mod Bounds
 pub mod Division
 pub mod Lexemes
 pub mod Lexing

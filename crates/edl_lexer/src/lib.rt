@@ -3,6 +3,7 @@
 
 ghost use Rattle.std.specs.Prelude.{◌≡◌, ◌≤◌, ◌⊎◌, length, IfOk, IfErr, Ok, Err};
 ghost use Rattle.sgx_base.specs.Stores.{max_file_size};
+ghost use Rattle.edl_lexer.specs.Bounds.{LieIn, AreInOrder};
 ghost use Rattle.edl_lexer.specs.Division.{AreTokensOf, HasNoTokens, DivisionIsUnique};
 ghost use Rattle.edl_lexer.specs.Lexing as spec;
 ghost use Rattle.edl_lexer.specs.declared.LexFault.TheVariants.{Memory};
@@ -101,6 +102,8 @@ pub fn lex(alloc: Global, file: u32, bytes: &[u8]) -> Result<Vec<Token>, LexFaul
     ensures tokens { IfOk result (λ tokens. spec.lexing file bytes.now ≡ Ok tokens.items) }
     ensures fault { IfErr result (λ fault. (fault ≡ Memory) ⊎ (spec.lexing file bytes.now ≡ Err fault)) }
     ensures divided { IfOk result (λ tokens. AreTokensOf bytes.now tokens.items) }
+    ensures within { IfOk result (λ tokens. LieIn bytes.now tokens.items 0) }
+    ensures in_order { IfOk result (λ tokens. AreInOrder 0 tokens.items) }
     ensures refused { IfErr result (λ fault. (fault ≡ Memory) ⊎ HasNoTokens bytes.now) }
 {
     let mut tokens = Vec::new(alloc);

@@ -2,6 +2,7 @@ use Rattle.std.proofs.Common.{arith, ◌≡◌, ◌+◌, ◌-◌, ◌<◌, suc, 
 use Rattle.edl_lexer.specs.Lexing as lexing
 use Rattle.edl_lexer.proofs.Turns.{with_front, with_front-token, begun, skip, Turned, turned, gap_at, piece_at, flawed_at, full_at, at_end}
 use Rattle.edl_lexer.proofs.Divided.{tokens_divided, refused}
+use Rattle.edl_lexer.proofs.Within.{tokens_lie, tokens_follow}
 use Rattle.edl_lexer.specs.declared.scan.Flaw.TheVariants.{TooManyTokens}
 use Rattle.edl_lexer.proofs.lex.Goals as goal
 
@@ -77,3 +78,9 @@ returns-clause-divided c =
     tokens_divided c.args.file c.args.bytes.now c.loop-at.tokens.items (sym c.loop-at.invariant.rest
     ∙ at_end c.args.file (65536 - length c.loop-at.tokens.items) c.loop-at.after_number c.loop-at.at c.loop-at.tokens.items (drop c.loop-at.at.offset c.args.bytes.now)
     (omega (arith, length-drop c.loop-at.at.offset c.args.bytes.now, c.loop-at-test.false)))
+
+pub returns-clause-within : goal.returns-clause-within
+returns-clause-within c = tokens_lie c.args.bytes.now c.loop-at.tokens.items (returns-clause-divided c) c.loop-at.invariant.room
+
+pub returns-clause-in_order : goal.returns-clause-in_order
+returns-clause-in_order c = tokens_follow c.args.bytes.now c.loop-at.tokens.items (returns-clause-divided c)

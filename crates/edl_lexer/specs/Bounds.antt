@@ -1,5 +1,5 @@
--- What a parser asks of the tokens of a file.
-use Rattle.std.specs.Prelude.{ℕ, ◌+◌, ◌<◌, ◌≤◌, ◌^◌, List, length, All}
+-- Where the tokens of a file lie in its bytes.
+use Rattle.std.specs.Prelude.{ℕ, ◌+◌, ◌<◌, ◌≤◌, ◌^◌, List, [], ◌∷◌, length, All}
 use Rattle.edl_lexer.specs.declared.Token.{Token}
 use Rattle.edl_lexer.specs.declared.TokenKind.{TokenKind}
 use Rattle.edl_lexer.specs.declared.TokenKind.TheVariants as kinds
@@ -19,3 +19,8 @@ LiesIn bytes t = (t.from + least_len t.kind ≤ t.upto) × (t.upto ≤ length by
 pub record LieIn (bytes : List ℕ) (tokens : List Token) (number : ℕ) : Type 0 where
   pub inside : All (LiesIn bytes) tokens
   pub fits : number + length tokens < 2 ^ 32
+
+-- the first token begins at this byte or behind it, and each other where the one before ends or behind that
+abbrev pub AreInOrder : ℕ → List Token → Type 0
+AreInOrder n [] = Unit {0}
+AreInOrder n (t ∷ ts) = (n ≤ t.from) × AreInOrder t.upto ts
