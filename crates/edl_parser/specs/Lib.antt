@@ -4,7 +4,6 @@ pub mod Grammar
 pub mod Sentence
 pub mod Files
 pub mod Parser
-pub mod Bounds
 pub mod Reads
 pub mod Depth
 pub mod Examples

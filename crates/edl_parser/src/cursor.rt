@@ -3,7 +3,7 @@
 ghost use Rattle.std.specs.Prelude.{◌≡◌, ◌<◌, ◌^◌, length};
 ghost use Rattle.std.specs.List.{list_any};
 ghost use Rattle.std.specs.Str.{bytes_eq};
-ghost use Rattle.edl_parser.specs.Bounds.{LieIn};
+ghost use Rattle.edl_lexer.specs.Bounds.{LieIn};
 ghost use Rattle.edl_parser.specs.Parser as parser;
 ghost use Rattle.edl_parser.specs.Reads.{Reads};
 ghost use Rattle.edl_parser.specs.Symbols.{symbols, is_reserved, file_words, type_words, number_words};
@@ -95,7 +95,7 @@ pub struct Cursor<'a> {
 impl<'a> Model for Cursor<'a> {
     ghost use Rattle.std.specs.Prelude.{List};
     ghost use Rattle.edl_parser.specs.Symbols.{Lexed, symbols_from};
-    ghost use Rattle.edl_parser.specs.Bounds.{LieIn};
+    ghost use Rattle.edl_lexer.specs.Bounds.{LieIn};
 
     ghost Value = { List Lexed };
 

@@ -7,7 +7,7 @@ ghost use Rattle.sgx_base.specs.Stores.{max_file_size};
 ghost use Rattle.edl_lexer.specs.declared.Token.{Token};
 ghost use Rattle.edl_parser.specs.declared.EdlFile.{EdlFile};
 ghost use Rattle.edl_parser.specs.Symbols.{Lexed};
-ghost use Rattle.edl_parser.specs.Bounds.{LieIn};
+ghost use Rattle.edl_lexer.specs.Bounds.{LieIn};
 ghost use Rattle.edl_parser.specs.Examples.{Examples};
 ghost use Rattle.edl_parser.specs.Grammar.{file as sentence};
 ghost use Rattle.edl_parser.specs.Sentence.{Parses, least, deep_in, fault as fault_of};
