@@ -22,6 +22,8 @@ mod functions;
 mod items;
 mod phrases;
 mod places;
+#[cfg(test)]
+mod tests;
 
 use cursor::{Cursor, Stop};
 use depth::first_deep;
