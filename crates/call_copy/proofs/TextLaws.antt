@@ -1,5 +1,5 @@
 -- Laws of texts in memory.
-use Rattle.std.proofs.Common.{ℕ, zero, suc, ◌+◌, ◌-◌, ◌*◌, ◌/◌, ◌%◌, ◌<◌, ◌≤◌, ◌≡◌, Bool, true, false, cond, not, nat_lt, if◌then◌else◌, List, [], ◌++◌, length, take, drop, get_or, replicate, Some, None, Ok, Err, refl, ap, sym, ◌∙◌, subst, arith, slice_set, option_map, slice_range, inl, inr, length-append}
+use Rattle.std.proofs.Common.{ℕ, zero, suc, ◌+◌, ◌-◌, ◌*◌, ◌/◌, ◌%◌, ◌<◌, ◌≤◌, ◌≡◌, Bool, true, false, cond, not, nat_lt, if◌then◌else◌, List, [], ◌++◌, length, take, drop, get_or, replicate, Some, None, Ok, Err, refl, ap, sym, ◌∙◌, subst, arith, slice_set, option_map, inl, inr, length-append}
 use Rattle.std.specs.List.{position_or_len}
 use Rattle.std.proofs.Math.Nat.{mul-le-mul_right, div-mul-le_self, mod-eq_of_lt}
 use borrow.Author.Count.{below_more}
@@ -83,18 +83,6 @@ text_none unit k bytes h none =
     let w : length (units unit (length bytes / unit) bytes) ≤ position_or_len is_zero_unit (units unit (length bytes / unit) bytes) = omega (arith, p, l) in
     let t : nat_lt (position_or_len is_zero_unit (units unit (length bytes / unit) bytes)) (length (units unit (length bytes / unit) bytes)) ≡ false = lt_false _ _ w in
     ap (λ b. option_map (λ i. (i + 1) * unit) (cond b (Some (position_or_len is_zero_unit (units unit (length bytes / unit) bytes))) None)) t
-
-unit_is : (unit k : ℕ) (bytes : List ℕ) → unit_at unit bytes k ≡ slice_range bytes (k * unit) (k * unit + unit)
-unit_is unit k bytes =
-    let e : unit ≡ (k * unit + unit) - k * unit = omega arith in
-    ap (λ n. take n (drop (k * unit) bytes)) e
-
--- the first unit 0 is here
-pub text_found_here : (unit k : ℕ) (bytes : List ℕ) → k < length bytes / unit → NoneBefore unit bytes k → is_zero_unit (slice_range bytes (k * unit) (k * unit + unit)) ≡ true
-    → Some (k * unit + unit) ≡ terminated_length unit bytes
-text_found_here unit k bytes h none here =
-    let e : (k + 1) * unit ≡ k * unit + unit = omega arith in
-    sym (text_found unit k bytes h none (ap (λ u. is_zero_unit u) (unit_is unit k bytes) ∙ here) ∙ ap (λ n. Some n) e)
 
 -- the last unit set to 0 keeps the length
 pub length-text : (unit : ℕ) (bytes : List ℕ) → unit ≤ length bytes → length (terminated_text unit bytes) ≡ length bytes

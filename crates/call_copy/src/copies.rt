@@ -15,10 +15,10 @@ ghost use Rattle.call_copy.specs.Copies.{block_rows, first_bytes, copy_in as cop
 ghost use Rattle.call_copy.specs.Stops.{MatchStop};
 
 use crate::ranges::{fetch_range, put_range, put_zeros};
-use crate::texts::{end_text, terminated_length};
+use crate::texts::end_text;
 use crate::{CopyStop, Shape};
 use enclave_memory::{Arena, Block};
-use sgx_base::{Passing, Status};
+use sgx_base::{Passing, Status, divisible, terminated_length};
 use word_port::{RunFull, Side, WordPort};
 
 /// Copies a parameter that is no text into a new block of the arena, or refuses it.
@@ -103,7 +103,7 @@ fn put_text<P: WordPort>(port: &mut P, at: u64, bytes: &[u8], unit: u32) -> Resu
     ensures full { IfErr result (λ full. (full ≡ Steps) × StopsFull (stores Enclave at (cut_text unit bytes.now)) (P.state port.old) (P.state port.new)) }
 {
     let body = &bytes[..bytes.len() - unit as usize];
-    match terminated_length(body, unit as usize) {
+    match terminated_length(body, unit) {
         Some(n) => put_range(port, Side::Enclave, at, &body[..n]),
         None => put_ended(port, at, body, unit),
     }
@@ -154,7 +154,7 @@ fn first_block<P: WordPort>(
         (λ status. (first_row (block_rows shape length (room_of arena.old)) ≡ Some status) × (P.state port.new ≡ P.state port.old) × (arena.new ≡ arena.old))
         (λ full. (first_row (block_rows shape length (room_of arena.old)) ≡ None) × (full ≡ Steps) × StopsFull (first_bytes shape at length) (P.state port.old) (P.state port.new))) }
 {
-    if !divisible(length, shape.unit) {
+    if !divisible(length, u64::from(shape.unit)) {
         return Err(CopyStop::Refused(Status::INVALID_PARAMETER));
     }
     let Some(block) = push_length(arena, length) else {
@@ -194,13 +194,6 @@ fn is_inward(way: Passing) -> bool
         Passing::Inward | Passing::Both => true,
         Passing::Outward => false,
     }
-}
-
-/// Whether the bytes are whole elements of a size. Only 0 is divisible by 0.
-fn divisible(length: u64, unit: u32) -> bool
-    ensures { result ≡ is_divisible length unit }
-{
-    length.is_multiple_of(u64::from(unit))
 }
 
 /// Begins a block of so many bytes, if they fit.

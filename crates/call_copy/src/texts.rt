@@ -1,10 +1,11 @@
 //! Texts in memory, whose units have one byte or more.
 
 ghost use Rattle.std.specs.Prelude.{ℕ, List, ◌≡◌, ◌<◌, ◌≤◌, length, slice_set};
-ghost use Rattle.sgx_base.specs.Texts.{is_zero_unit, terminated_length as length_up_to_end, terminated_text, has_early_end};
+ghost use Rattle.sgx_base.specs.Texts.{terminated_text, has_early_end};
 ghost use Rattle.enclave_memory.specs.Memory.{IsBlock, IsLive};
 
 use enclave_memory::{Arena, Block};
+use sgx_base::terminated_length;
 
 /// Sets the last unit of a text to 0, and says whether an earlier one is 0.
 pub(crate) fn end_text(arena: &mut Arena, block: Block, unit: u32) -> bool
@@ -16,26 +17,5 @@ pub(crate) fn end_text(arena: &mut Arena, block: Block, unit: u32) -> bool
 {
     arena.zero_from(block, block.length - unit);
     let bytes = arena.bytes(block);
-    terminated_length(bytes, unit as usize).unwrap_or(bytes.len()) < bytes.len()
-}
-
-/// The length of a text up to its first unit 0 and with it, where there is one.
-pub(crate) fn terminated_length(bytes: &[u8], unit: usize) -> Option<usize>
-    requires { 0 < unit }
-    ensures { result ≡ length_up_to_end unit bytes.now }
-{
-    for k in 0..bytes.len() / unit {
-        let start = k * unit;
-        if is_zero(&bytes[start..start + unit]) {
-            return Some(start + unit);
-        }
-    }
-    None
-}
-
-/// Whether every byte is 0.
-fn is_zero(bytes: &[u8]) -> bool
-    ensures { result ≡ is_zero_unit bytes.now }
-{
-    bytes.iter().all(|b| *b == 0)
+    terminated_length(bytes, unit).unwrap_or(bytes.len()) < bytes.len()
 }

@@ -1,34 +1,20 @@
 //! Strings among bytes, whose units have 1 byte or 4.
 ghost use Rattle.std.specs.Prelude.{◌≡◌, ◌≤◌, length, OnOk, IfSome};
-ghost use Rattle.sgx_base.specs.Texts.{terminated_length as terminated_length_of, is_zero_unit as is_zero_unit_of};
+ghost use Rattle.sgx_base.specs.Texts.{terminated_length as terminated_length_of};
 ghost use Rattle.call_report.specs.Report.{as_copied, put_length as put_length_of};
 
 use attr_rules::Class;
 use std::alloc::AllocError;
 
-/// Whether each byte of a unit is 0.
-fn is_zero_unit(bytes: &[u8]) -> bool
-    ensures { result ≡ is_zero_unit_of bytes.now }
-{
-    bytes.iter().all(|byte| *byte == 0)
-}
-
-/// The length up to the first unit 0 and with it, where there is one.
+/// The length up to the first unit 0 and with it, where there is one. There is none of a unit without bytes.
 pub(crate) fn terminated_length(unit: u32, bytes: &[u8]) -> Option<usize>
     ensures length { result ≡ terminated_length_of unit bytes.now }
     ensures within { IfSome result (λ n. n ≤ length bytes.now) }
 {
-    let unit = unit as usize;
     if unit == 0 {
         return None;
     }
-    for number in 0..bytes.len() / unit {
-        let start = number * unit;
-        if is_zero_unit(&bytes[start..start + unit]) {
-            return Some(start + unit);
-        }
-    }
-    None
+    sgx_base::terminated_length(bytes, unit)
 }
 
 /// Sets the last unit of a string to 0; other bytes stay.
