@@ -1,0 +1,8 @@
+use Rattle.std.proofs.Common.{length}
+use Rattle.enclave_memory.proofs.Blocks.{pushed_block}
+use Rattle.call_copy.proofs.tests.check_in.Goals as goal
+
+pub bytes-requires : goal.bytes-requires
+bytes-requires g c =
+    let (bytes, made, pushed) = c.in-Ok.ensures.ok in
+    (length c.in_ok-arena.arena.blocks, bytes, pushed_block c.in_ok-arena.arena c.copy_in.new.arena c.in-Ok.block bytes pushed)

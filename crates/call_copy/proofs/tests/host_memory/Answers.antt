@@ -1,0 +1,8 @@
+use Rattle.std.proofs.Common.{ℕ, arith}
+use Rattle.std.proofs.lemmas.List.{get_or-replicate}
+use Rattle.call_copy.proofs.tests.host_memory.Goals as goal
+
+pub new-requires-clause-bytes : goal.new-requires-clause-bytes
+new-requires-clause-bytes g c = λ k h.
+    let z = get_or-replicate {A = ℕ} 64 k 0 0 h in
+    omega (arith, z)

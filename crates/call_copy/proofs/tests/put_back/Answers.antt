@@ -1,0 +1,8 @@
+use Rattle.std.proofs.Common.{length}
+use Rattle.enclave_memory.proofs.Blocks.{pushed_block}
+use Rattle.call_copy.proofs.tests.put_back.Goals as goal
+
+pub copy_out-requires-clause-live : goal.copy_out-requires-clause-live
+copy_out-requires-clause-live g c =
+    let (bytes, made, pushed) = c.in-Ok.ensures.ok in
+    (length c.in_ok-arena.arena.blocks, bytes, pushed_block c.in_ok-arena.arena c.copy_in.new.arena c.in-Ok.block bytes pushed)
