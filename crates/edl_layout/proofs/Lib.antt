@@ -1,0 +1,20 @@
+pub mod Rounding
+pub mod FieldLists
+pub mod Kept
+mod LayoutLaws
+pub mod Covering
+pub mod Growing
+pub mod Doneness
+pub mod Capping
+pub mod Together
+pub mod Walking
+pub mod Naming
+pub mod Flat
+pub mod Sweeping
+pub mod Judging
+pub mod Voids
+pub mod Settling
+pub mod Pushing
+pub mod Meanings
+pub mod Among
+pub mod FrameTests

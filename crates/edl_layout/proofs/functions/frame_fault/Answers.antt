@@ -1,0 +1,12 @@
+use Rattle.std.proofs.Common.{Bool, sym, subst}
+use Rattle.edl_parser.specs.Files.{FunctionIn}
+use Rattle.edl_layout.specs.declared.LayoutFault.{LayoutFault}
+use Rattle.edl_layout.specs.Faults.{FunctionFault, frame}
+use Rattle.edl_layout.specs.Pushed.{IsFrameTest}
+use Rattle.edl_layout.proofs.functions.frame_fault.Goals as goal
+
+pub returns-then-is_frame_too_large : goal.returns-then-is_frame_too_large
+returns-then-is_frame_too_large c known clean =
+    let f : FunctionIn = record { file = c.args.file; is_trusted = c.args.is_trusted; decl = c.args.decl.now } in
+    let t = subst (λ (b : Bool). IsFrameTest c.args.types.now.gathered c.args.types.now.foreign f b) c.if-is_frame_too_large.true (c.is_frame_too_large.ensures c.args.file) in
+    subst (λ (e : LayoutFault). FunctionFault c.args.types.now.gathered c.args.types.now.foreign f e) (sym c.too_large_at.ensures) (frame known clean t.0 t.1 t.2)

@@ -1,0 +1,10 @@
+use Rattle.std.proofs.Common.{◌≡◌, ℕ, List, drop}
+use Rattle.std.specs.Str.{bytes_eq}
+use Rattle.std.specs.Map.{lookup}
+use denote.Ref.{Bor}
+use Rattle.edl_layout.specs.Named.{first_from}
+use Rattle.edl_layout.proofs.tables.first_foreign.Given as goal
+
+abbrev pub invariant-loop-i : goal.invariant-loop-i
+invariant-loop-i l =
+    (name : Bor (List ℕ)) → lookup (λ k. bytes_eq name.now k.now) l.table.entries ≡ first_from (λ t. bytes_eq t.name name.now) l.i (drop l.i l.types)
