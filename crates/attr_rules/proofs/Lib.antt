@@ -1,1 +1,23 @@
-mod BytesLaws
+pub mod Tables
+pub mod Firsts
+pub mod FunctionLaws
+pub mod TypeLaws
+pub mod NameLaws
+pub mod PlaceLaws
+pub mod KindLaws
+pub mod SizeLaws
+pub mod FieldLaws
+pub mod ParamLaws
+pub mod KnownShapes
+pub mod FrameBounds
+pub mod Unbroken
+pub mod Bounds
+pub mod SoundLaws
+pub mod Soundness
+pub mod SizedTypes
+pub mod CheckLaws
+pub mod NamesApart
+pub mod FieldEnds
+pub mod KnownFields
+pub mod PassedClasses
+pub mod RunnableLaws

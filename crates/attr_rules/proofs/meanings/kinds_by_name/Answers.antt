@@ -1,0 +1,15 @@
+use Rattle.std.proofs.Common.{◌≡◌, ◌∙◌, sym, ap, subst, not, ◌&&◌, nat_lt, Option, Some, None, ℕ, List, [], ◌∷◌, ◌++◌, map, Bool, get_or}
+use Rattle.std.specs.Prelude.{if◌then◌else◌, option_map}
+use Rattle.edl_parser.specs.declared.SourceFile.{SourceFile}
+use Rattle.std.specs.Prelude.{fold}
+use Rattle.attr_rules.specs.declared.meanings.Kinds.{Kinds}
+use Rattle.attr_rules.specs.Kinds as kinds
+use Rattle.attr_rules.proofs.Firsts.{take_whole}
+use Rattle.attr_rules.proofs.KindLaws.{kinds_from}
+use Rattle.attr_rules.proofs.meanings.kinds_by_name.Goals as goal
+
+pub returns : goal.returns
+returns c = λ q.
+    c.loop-file.invariant q
+    ∙ ap (fold (λ (k : Option Kinds) (f : SourceFile). fold (kinds.with_decl q) k f.tree.types) None) (take_whole c.as_slice-file-items.result.now c.loop-file.file-index c.loop-file-test.false ∙ c.as_slice-file-items.ensures)
+    ∙ sym (kinds_from q 0 None c.args.gathered.now.files)

@@ -1,0 +1,18 @@
+use Rattle.std.proofs.Common.{◌≡◌, ◌∙◌, sym, ap, subst, not, ◌&&◌, nat_lt, Option, Some, None, ℕ, List, [], ◌∷◌, ◌++◌, map, Bool, get_or}
+use Rattle.std.specs.Prelude.{if◌then◌else◌, option_map}
+use Rattle.edl_parser.specs.declared.Declared.{Declared}
+use Rattle.std.specs.Prelude.{option_and_then, slice_get}
+use Rattle.std.specs.Str.{bytes_eq}
+use Rattle.attr_rules.proofs.PlaceLaws.{found_at}
+use Rattle.attr_rules.proofs.places.Params.named.Goals as goal
+
+pub returns-in-Some : goal.returns-in-Some
+returns-in-Some c =
+    c.at.ensures
+    ∙ ap (option_and_then (λ i. slice_get c.args.self.now.list.now i)) (sym c.in-Some.is ∙ c.place.ensures)
+    ∙ sym (found_at (λ (p : Declared). bytes_eq p.name c.args.name.now) c.args.self.now.list.now)
+
+pub returns-in-None : goal.returns-in-None
+returns-in-None c =
+    ap (option_and_then (λ i. slice_get c.args.self.now.list.now i)) (sym c.in-None.is ∙ c.place.ensures)
+    ∙ sym (found_at (λ (p : Declared). bytes_eq p.name c.args.name.now) c.args.self.now.list.now)

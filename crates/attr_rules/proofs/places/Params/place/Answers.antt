@@ -1,0 +1,11 @@
+use Rattle.std.proofs.Common.{◌≡◌, ◌∙◌, sym, ap, subst, not, ◌&&◌, nat_lt, Option, Some, None, ℕ, List, [], ◌∷◌, ◌++◌, map, Bool, get_or}
+use Rattle.std.specs.Prelude.{if◌then◌else◌, option_map}
+use Rattle.edl_parser.specs.declared.Declared.{Declared}
+use Rattle.std.specs.Str.{bytes_eq}
+use Rattle.attr_rules.proofs.PlaceLaws.{position-map}
+use Rattle.attr_rules.proofs.places.Params.place.Goals as goal
+
+pub returns : goal.returns
+returns c =
+    c.place.ensures (map (λ (p : Declared). p.name) c.args.self.now.list.now) (record { here = c.args.self.now.by_name })
+    ∙ position-map (λ (p : Declared). p.name) (λ (n : List ℕ). bytes_eq n c.args.name.now) c.args.self.now.list.now

@@ -1,0 +1,25 @@
+-- The earliest token of a name, and what a table of names tells.
+use Rattle.std.specs.Prelude.{◌≡◌, ℕ, min, Bool, false, nat_lt, if◌then◌else◌, List, Option, Some, None, fold}
+use Rattle.std.specs.Str.{bytes_eq}
+use Rattle.edl_parser.specs.declared.NameAt.{NameAt}
+use Rattle.attr_rules.specs.declared.names.Names.{Names}
+use Rattle.attr_rules.specs.Kinds.{told}
+
+abbrev pub earlier_of : Option ℕ → ℕ → ℕ
+earlier_of None token = token
+earlier_of (Some n) token = min n token
+
+-- one name more
+abbrev pub with_name : List ℕ → Option ℕ → NameAt → Option ℕ
+with_name q t x = if bytes_eq x.name q then Some (earlier_of t x.token) else t
+
+abbrev pub earliest : List ℕ → List NameAt → Option ℕ
+earliest q = fold (with_name q) None
+
+abbrev pub is_before : Option ℕ → ℕ → Bool
+is_before None token = false
+is_before (Some n) token = nat_lt n token
+
+-- the table has the earliest token of each name
+pub record TellsNames (names : Names) (list : List NameAt) : Type 0 where
+  pub here : (q : List ℕ) → told names.earliest q ≡ earliest q list

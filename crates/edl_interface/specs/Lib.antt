@@ -1,0 +1,4 @@
+pub mod Lengths
+pub mod Parameters
+pub mod Sound
+pub mod Runnable
