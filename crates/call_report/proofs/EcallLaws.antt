@@ -4,10 +4,10 @@ use Rattle.std.proofs.lemmas.List.{drop-drop, take-take, take-map, length-take, 
 use Rattle.std.proofs.lemmas.Bool.{ne_eqb}
 use Rattle.std.proofs.Math.Dec.{eqb}
 use Rattle.std.specs.Option.{option_eq}
-use Rattle.attr_rules.specs.declared.Param.{Param}
-use Rattle.attr_rules.specs.declared.Function.{Function}
-use Rattle.attr_rules.specs.Parameters.{is_marshalled, is_in, is_out, field_of}
-use Rattle.attr_rules.specs.Lengths.{copied_length}
+use Rattle.edl_interface.specs.declared.Param.{Param}
+use Rattle.edl_interface.specs.declared.Function.{Function}
+use Rattle.edl_interface.specs.Parameters.{is_marshalled, is_in, is_out, field_of}
+use Rattle.edl_interface.specs.Lengths.{copied_length}
 use Rattle.word_port.specs.declared.Step.{Step}
 use Rattle.call_report.specs.Report.{found_bytes, put_bytes, hex_text, value_line, in_line, out_line, as_copied, put_length, ecall_in_lines, ecall_out_lines}
 

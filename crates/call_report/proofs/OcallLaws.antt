@@ -1,9 +1,9 @@
 -- The lines under an OCALL, parameter by parameter.
 use Rattle.std.proofs.Common.{ℕ, ◌≡◌, ◌+◌, ◌==◌, ◌&&◌, Bool, true, false, not, if◌then◌else◌, List, [], ◌∷◌, ◌++◌, take, drop, codes, refl, ap, ◌∙◌, sym, append_assoc, zero-add}
 use Rattle.std.proofs.lemmas.List.{drop-drop}
-use Rattle.attr_rules.specs.declared.Param.{Param}
-use Rattle.attr_rules.specs.declared.Function.{Function}
-use Rattle.attr_rules.specs.Parameters.{is_marshalled, is_out}
+use Rattle.edl_interface.specs.declared.Param.{Param}
+use Rattle.edl_interface.specs.declared.Function.{Function}
+use Rattle.edl_interface.specs.Parameters.{is_marshalled, is_out}
 use Rattle.word_port.specs.declared.Step.{Step}
 use Rattle.call_report.specs.Report.{found_bytes, hex_text, value_line, out_line, buffer_length, buffers_after, ocall_out_lines}
 

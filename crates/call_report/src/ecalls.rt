@@ -1,13 +1,13 @@
 //! The lines under the header of an ECALL.
 ghost use Rattle.std.specs.Prelude.{◌≡◌, ◌∷◌, ◌++◌, List, IfOk, OnOk};
-ghost use Rattle.attr_rules.specs.declared.Param.{Param as ParamValue};
+ghost use Rattle.edl_interface.specs.declared.Param.{Param as ParamValue};
 ghost use Rattle.call_report.specs.Report.{as_copied, found_bytes as found_bytes_of, ecall_in_lines, ecall_out_lines, ecall_lines};
 
 use crate::CallRecord;
 use crate::steps::{after, first, found_bytes, loaded_bytes, put_bytes, split, written_bytes};
 use crate::texts::{end_copied, put_length};
 use crate::words::{append_bytes_line, append_return_lines, append_value_line};
-use attr_rules::{Class, Function, Param};
+use edl_interface::{Class, Function, Param};
 use std::alloc::{AllocError, Global};
 use word_port::Step;
 

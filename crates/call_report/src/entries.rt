@@ -8,7 +8,7 @@ use crate::ocalls::append_ocall_lines;
 use crate::steps::loaded_bytes;
 use crate::words::{append_header, append_line, hex_number, hex_text};
 use crate::{CallKind, CallRecord, Way};
-use attr_rules::{Function, Interface};
+use edl_interface::{Function, Interface};
 use std::alloc::{AllocError, Global};
 use word_port::Step;
 

@@ -1,14 +1,14 @@
 //! The lines under the header of an OCALL.
 ghost use Rattle.std.specs.Prelude.{◌≡◌, ◌+◌, ◌<◌, ◌^◌, ◌==◌, if◌then◌else◌, [], ◌∷◌, ◌++◌, List, take, drop, SomeIff, IfOk, OnOk};
-ghost use Rattle.attr_rules.specs.declared.Param.{Param as ParamValue};
-ghost use Rattle.attr_rules.specs.Parameters.{return_size as return_size_of};
+ghost use Rattle.edl_interface.specs.declared.Param.{Param as ParamValue};
+ghost use Rattle.edl_interface.specs.Parameters.{return_size as return_size_of};
 ghost use Rattle.call_report.specs.Report.{buffer_length as buffer_length_of, buffers_after as buffers_after_of, loaded_bytes as loaded_bytes_of, return_lines, ocall_in_lines, ocall_out_lines, ocall_lines};
 
 use crate::CallRecord;
 use crate::steps::{after, found_bytes, loaded_bytes, split, written_bytes};
 use crate::texts::terminated_length;
 use crate::words::{append_bytes_line, append_return_lines, append_value_line};
-use attr_rules::{Function, Param};
+use edl_interface::{Function, Param};
 use std::alloc::{AllocError, Global};
 use word_port::Step;
 

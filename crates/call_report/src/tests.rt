@@ -1,5 +1,5 @@
 use super::*;
-use attr_rules::{Amount, Class, Function, Interface, Param, Plain};
+use edl_interface::{Amount, Class, Function, Interface, Param, Plain};
 use sgx_base::{Name, Passing};
 use sqlite_items::Items;
 use std::alloc::{AllocError, Global};

@@ -3,7 +3,7 @@ ghost use Rattle.std.specs.Prelude.{◌≡◌, ◌≤◌, length, OnOk, IfSome};
 ghost use Rattle.sgx_base.specs.Texts.{terminated_length as terminated_length_of};
 ghost use Rattle.call_report.specs.Report.{as_copied, put_length as put_length_of};
 
-use attr_rules::Class;
+use edl_interface::Class;
 use std::alloc::AllocError;
 
 /// The length up to the first unit 0 and with it, where there is one. There is none of a unit without bytes.

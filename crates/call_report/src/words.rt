@@ -3,7 +3,7 @@ ghost use Rattle.std.specs.Prelude.{◌≡◌, [], ◌∷◌, ◌++◌, map, cod
 ghost use Rattle.call_report.specs.Report.{hex_text as hex_text_of, hex_number as hex_number_of, status_text as status_text_of, way_text as way_text_of, line as line_of, value_line as value_line_of, return_lines as return_lines_of, header as header_of};
 
 use crate::{CallRecord, Way};
-use attr_rules::Function;
+use edl_interface::Function;
 use sgx_base::Status;
 use std::alloc::{AllocError, Global};
 

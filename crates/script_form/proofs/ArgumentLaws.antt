@@ -1,9 +1,9 @@
 -- Arguments, one after another.
-use Rattle.std.proofs.Common.{◌≡◌, ℕ, List, [], ◌∷◌, ◌++◌, refl, sym, ◌∙◌, ap, append_assoc, Option, Some, None}
-use Rattle.attr_rules.specs.declared.Param.{Param}
+use Rattle.std.proofs.Common.{◌≡◌, Bool, false, List, [], ◌∷◌, ◌++◌, refl, sym, ◌∙◌, ap, append_assoc, Option, Some, None}
+use Rattle.edl_interface.specs.declared.Param.{Param}
 use Rattle.call_script.specs.declared.CallArg.{CallArg}
-use Rattle.script_form.specs.Words.{Word, and_then, this}
-use Rattle.script_form.specs.Line.{arguments, argument}
+use Rattle.script_form.specs.Words.{Word, and_then}
+use Rattle.script_form.specs.Line.{arguments, argument, comma}
 
 -- what was read before, and then what is read
 abbrev pub with_front : List CallArg → Option (List CallArg × List Word) → Option (List CallArg × List Word)
@@ -14,13 +14,13 @@ with_front-cons : (front : List CallArg) (a : CallArg) (r : Option (List CallArg
 with_front-cons front a None = refl
 with_front-cons front a (Some r) = ap (λ z. Some (z, r.1)) (sym (append_assoc front (a ∷ []) r.0))
 
-module _ (mark : ℕ) (p : Param) (ps : List Param) (ws : List Word) where
-  pub no_mark : this (mark ∷ []) ws ≡ None → arguments mark (p ∷ ps) ws ≡ None
-  no_mark e = rw e refl
+module _ (first : Bool) (p : Param) (ps : List Param) (ws : List Word) where
+  pub no_comma : comma first ws ≡ None → arguments first (p ∷ ps) ws ≡ None
+  no_comma e = rw e refl
 
-  pub no_argument : (mid : List Word) → this (mark ∷ []) ws ≡ Some (tt, mid) → argument p mid ≡ None → arguments mark (p ∷ ps) ws ≡ None
+  pub no_argument : (mid : List Word) → comma first ws ≡ Some (tt, mid) → argument p mid ≡ None → arguments first (p ∷ ps) ws ≡ None
   no_argument mid e f = rw (e, f) refl
 
-  pub one_argument : (front : List CallArg) (a : CallArg) (mid left : List Word) → this (mark ∷ []) ws ≡ Some (tt, mid) → argument p mid ≡ Some (a, left)
-      → with_front front (arguments mark (p ∷ ps) ws) ≡ with_front (front ++ a ∷ []) (arguments 44 ps left)
-  one_argument front a mid left e f = rw (e, f) (with_front-cons front a (arguments 44 ps left))
+  pub one_argument : (front : List CallArg) (a : CallArg) (mid left : List Word) → comma first ws ≡ Some (tt, mid) → argument p mid ≡ Some (a, left)
+      → with_front front (arguments first (p ∷ ps) ws) ≡ with_front (front ++ a ∷ []) (arguments false ps left)
+  one_argument front a mid left e f = rw (e, f) (with_front-cons front a (arguments false ps left))

@@ -1,16 +1,15 @@
 -- The script of a draft, and what an answer says.
-use Rattle.std.proofs.Common.{ℕ, ◌≡◌, List, [], ◌∷◌, Option, Some, None, Result, Ok, Err, refl, ap, sym, ◌∙◌}
+use Rattle.std.proofs.Common.{ℕ, ◌≡◌, List, Result, Ok, Err, ap, sym, ◌∙◌, subst}
 use Rattle.std.specs.Prelude.{IfOk}
-use Rattle.std.specs.List.{slice_get}
 use Rattle.std.specs.Result.{IsErrAnd}
-use Rattle.attr_rules.specs.declared.Function.{Function}
-use Rattle.attr_rules.specs.declared.Interface.{Interface}
 use Rattle.call_script.specs.declared.Script.{Script}
 use Rattle.call_script.specs.declared.ScriptFault.{ScriptFault}
 use Rattle.call_script.specs.declared.ScriptFault.TheVariants.{Rule, Memory}
 use Rattle.script_form.specs.declared.Draft.{Draft}
+use Rattle.script_form.specs.Form.{Finds, scripted, script_with, script_form, drafted, first_draft}
 use Rattle.script_form.specs.Words.{lines}
-use Rattle.script_form.specs.Form.{Finds, scripted, script_with, drafted, first_draft, script_form, form_by}
+use Rattle.edl_interface.specs.declared.Function.{Function}
+use Rattle.edl_interface.specs.declared.Interface.{Interface}
 
 -- a fault of the draft is one of the script
 pub fault_on : (stated : Result Draft ℕ) (e : ScriptFault) (r : Result Script ScriptFault) → Finds stated (Err e) → IsErrAnd r (λ x. x ≡ e) → Finds (scripted stated) r
@@ -22,22 +21,17 @@ fault_on stated e (Err Memory) h b = tt
 pub script_on : (stated : Result Draft ℕ) (d : Draft) (s : Script) → stated ≡ Ok d → s ≡ script_with d → scripted stated ≡ Ok s
 script_on stated d s e f = ap scripted e ∙ ap (λ x. Ok x) (sym f)
 
-module _ (i : Interface) (text : List ℕ) where
-  pub no_function : None ≡ slice_get i.ecalls 0 → script_form i text ≡ Err 1
+module _ (i : Interface) (text : List ℕ) (fs : List Function) (same : fs ≡ i.ecalls) where
+  -- the form goes by the interface's functions alone
+  form-fs : scripted (drafted fs 1 (first_draft fs) (lines text)) ≡ script_form i text
   unfolding script_form
-  no_function e = go i.ecalls e
-    where
-      go : (fs : List Function) → None ≡ slice_get fs 0 → form_by fs text ≡ Err 1
-      go [] e = refl
-      go (f ∷ fs) e = absurd cc
+  form-fs = ap (λ gs. scripted (drafted gs 1 (first_draft gs) (lines text))) same
 
-  pub of_function : (f : Function) → Some f ≡ slice_get i.ecalls 0 → script_form i text ≡ scripted (drafted f 1 first_draft (lines text))
-  unfolding script_form
-  of_function f e = go i.ecalls e
-    where
-      go : (fs : List Function) → Some f ≡ slice_get fs 0 → form_by fs text ≡ scripted (drafted f 1 first_draft (lines text))
-      go [] e = absurd cc
-      go (g ∷ fs) e = let same : g ≡ f = cc in ap (λ h. scripted (drafted h 1 first_draft (lines text))) same
+  pub form_fault : (e : ScriptFault) (r : Result Script ScriptFault) → Finds (drafted fs 1 (first_draft fs) (lines text)) (Err e) → IsErrAnd r (λ x. x ≡ e) → Finds (script_form i text) r
+  form_fault e r h b = subst (λ stated. Finds stated r) form-fs (fault_on (drafted fs 1 (first_draft fs) (lines text)) e r h b)
+
+  pub form_script : (d : Draft) (s : Script) → drafted fs 1 (first_draft fs) (lines text) ≡ Ok d → s ≡ script_with d → script_form i text ≡ Ok s
+  form_script d s e f = sym form-fs ∙ script_on (drafted fs 1 (first_draft fs) (lines text)) d s e f
 
 pub found_ok : (stated : Result Script ℕ) (r : Result Script ScriptFault) → Finds stated r → IfOk r (λ s. stated ≡ Ok s)
 found_ok stated (Ok s) h = h

@@ -1,6 +1,10 @@
 pub mod WordLaws
 pub mod ArgumentLaws
+pub mod NumberLaws
 pub mod DraftLaws
 pub mod FormLaws
-pub mod First
+pub mod OptionLaws
+pub mod ValueLaws
+pub mod LineLaws
+pub mod PlainLaws
 pub mod Rows

@@ -1,4 +1,3 @@
-pub mod FirstScript
 pub mod Words
 pub mod Line
 pub mod Form

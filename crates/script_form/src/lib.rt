@@ -1,22 +1,24 @@
-//! The first form of scripts that the runner takes.
+//! The scripts that the runner takes: settings, host bytes, races, bodies that sum a block, and calls.
 #![tactic(auto)]
 
 ghost use Rattle.std.specs.Prelude.{◌≡◌, ◌≤◌, ℕ, length, IfOk};
 ghost use Rattle.sgx_base.specs.Stores.{max_file_size};
 ghost use Rattle.call_script.specs.declared.ScriptFault.TheVariants.{Rule};
-ghost use Rattle.edl_form.specs.FirstInterface.{IsFirstInterface};
-ghost use Rattle.script_form.specs.FirstScript.{IsFirstScript};
+ghost use Rattle.edl_interface.specs.Sound.{IsSound};
 ghost use Rattle.script_form.specs.Form.{script_form};
+ghost use Rattle.call_script.specs.PlainScript.{IsPlainScript};
 
 mod drafting;
 mod reading;
 mod script;
 mod words;
 
-use attr_rules::Interface;
+use body_vm::Body;
 use call_script::{CallArg, HostAct, Script, ScriptFault};
+use edl_interface::Interface;
 use sqlite_items::Items;
 use std::alloc::{AllocError, Global};
+use word_port::Race;
 
 /// Why a line says nothing.
 #[derive(Clone, Copy, Debug, PartialEq, Eq)]
@@ -36,110 +38,92 @@ impl From<AllocError> for LineFault {
     }
 }
 
-/// What a line says: nothing, host bytes from an index on, a line of the body, or a call.
+/// A size that a script may set.
+#[derive(Clone, Copy, Debug, PartialEq, Eq)]
+enum Setting {
+    Host,
+    Arena,
+    Stack,
+}
+
+/// What a line says: nothing, a setting, host bytes or races from an address on, a line of a body, or a call.
 #[derive(Debug, Drop)]
 enum Line {
     Blank,
-    Bytes { at: u64, bytes: Items<u8> },
-    Open,
-    Sum,
+    Set {
+        setting: Setting,
+        size: u32,
+    },
+    Bytes {
+        at: u64,
+        bytes: Items<u8>,
+    },
+    Race {
+        access: u32,
+        at: u64,
+        bytes: Items<u8>,
+    },
+    Open {
+        function: u32,
+    },
+    Sum {
+        block: u32,
+    },
     Return,
     Close,
-    Call { args: Items<CallArg> },
+    Call {
+        ordinal: u32,
+        args: Items<CallArg>,
+    },
 }
 
-/// How far the body has come.
+/// The sizes that a script sets, in bytes.
+#[derive(Clone, Copy, Debug, PartialEq, Eq)]
+struct Sizes {
+    host: Option<u32>,
+    arena: Option<u32>,
+    stack: Option<u32>,
+}
+
+/// Where the next line stands: after settings alone, outside of bodies, or in a body that has come so far.
 #[derive(Clone, Copy, Debug, PartialEq, Eq)]
 enum Stage {
-    NoBody,
-    Opened,
-    Summed,
-    Returned,
-    Closed,
+    Heading,
+    Outside,
+    Opened { function: u32 },
+    Summed { function: u32, block: u32 },
+    Returned { function: u32, block: u32 },
 }
 
 /// What the lines so far say.
 #[derive(Debug, Drop)]
 struct Draft {
+    sizes: Sizes,
     host: Items<u64>,
-    stage: Stage,
+    races: Items<Race>,
+    bodies: Items<Body>,
     acts: Items<HostAct>,
+    stage: Stage,
 }
 
-/// The script of the first form that these bytes are, for an interface of one function.
+/// The script that these bytes are, for an interface.
 ///
-/// It writes host bytes, has at most one body, which gives the sum of the buffer's bytes, and at most one call. A fault is of the first
-/// line that is not so; a body that no later line closes is one at its opening line.
+/// Before all else it may set `host`, `arena` and `stack`, each once; a stack must fit host memory as it stands at that line. It writes
+/// host bytes and races, gives each function a body or none, which returns the sum of the bytes of a block, and calls functions. A fault is
+/// of the first line that is not so; a body that no later line closes is one at its opening line.
 pub fn read_script(
     alloc: Global,
     bytes: &[u8],
     interface: &Interface,
 ) -> Result<Script, ScriptFault>
-    requires interface { IsFirstInterface interface.now }
+    requires sound { IsSound interface.now }
     requires short { length bytes.now ≤ max_file_size }
     ensures ok { IfOk result (λ s. script_form interface.now bytes.now ≡ Ok s) }
-    ensures first { IfOk result (λ s. IsFirstScript interface.now s) }
+    ensures plain { IfOk result (λ s. IsPlainScript interface.now s) }
     ensures rule { (line code : ℕ) → result ≡ Err (Rule line code) → (script_form interface.now bytes.now ≡ Err line) × (code ≡ 1) }
 {
     script::read(alloc, bytes, interface)
 }
 
 #[cfg(test)]
-mod tests {
-    use super::*;
-
-    const FILE: &[u8] =
-        b"enclave { trusted { public uint64_t f([in, size=len] const uint8_t* buf, size_t len); }; };";
-
-    /// The line at fault, 0 where there is none.
-    fn line_at_fault(alloc: Global, text: &[u8]) -> Option<u32>
-        requires { length text.now ≤ max_file_size }
-    {
-        let Ok(interface) = edl_form::read_edl(alloc, FILE) else {
-            return None;
-        };
-        match read_script(alloc, text, &interface) {
-            Ok(_) => Some(0),
-            Err(ScriptFault::Rule { line, .. }) => Some(line),
-            Err(ScriptFault::Memory) => None,
-        }
-    }
-
-    #[test]
-    fn scripts_of_the_form(rt: HostRuntime) {
-        let a = rt.alloc();
-        assert_eq!(rt; line_at_fault(a, b""), Some(0));
-        assert_eq!(rt;
-            line_at_fault(
-                a,
-                b"bytes 0x10000 010203\nbody f {\nsum r0 buf\n# twice\n\n\treturn r0\n}\ncall f(@0x10000, 3)\n"
-            ),
-            Some(0)
-        );
-        assert_eq!(rt;
-            line_at_fault(a, b"bytes 69631 fF\ncall f ( null ,-0 )"),
-            Some(0)
-        );
-    }
-
-    #[test]
-    fn faults(rt: HostRuntime) {
-        let a = rt.alloc();
-        assert_eq!(rt; line_at_fault(a, b"peek 0x10000 1"), Some(1));
-        assert_eq!(rt;
-            line_at_fault(a, b"body f {\nsum r0 buf\npeek 0x10000 1\n"),
-            Some(1)
-        );
-        assert_eq!(rt; line_at_fault(a, b"body f {\nreturn r0\n}\n"), Some(2));
-        assert_eq!(rt;
-            line_at_fault(a, b"body g {\nsum r0 buf\nreturn r0\n}\n"),
-            Some(1)
-        );
-        assert_eq!(rt;
-            line_at_fault(a, b"#\ncall f(null, 1)\ncall f(null, 1)"),
-            Some(3)
-        );
-        assert_eq!(rt; line_at_fault(a, b"bytes 0x10fff 0000"), Some(1));
-        assert_eq!(rt; line_at_fault(a, b"\n}\n"), Some(2));
-    }
-}
+mod tests;

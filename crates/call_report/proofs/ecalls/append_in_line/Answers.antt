@@ -1,6 +1,6 @@
 use Rattle.std.proofs.Common.{rules, ℕ, ◌≡◌, ◌++◌, ◌==◌, true, false, codes, sym, ap, ◌∙◌}
-use Rattle.attr_rules.specs.Parameters.{is_marshalled, is_in}
-use Rattle.attr_rules.specs.Lengths.{copied_length}
+use Rattle.edl_interface.specs.Parameters.{is_marshalled, is_in}
+use Rattle.edl_interface.specs.Lengths.{copied_length}
 use Rattle.call_report.specs.Report.{value_line, hex_text}
 use Rattle.call_report.proofs.EcallLaws.{in_line_step, not_zero}
 use Rattle.call_report.proofs.ecalls.append_in_line.Goals as goal

@@ -1,7 +1,7 @@
 use Rattle.std.proofs.Common.{rules, ℕ, ◌≡◌, ◌++◌, ◌≤◌, ◌==◌, true, false, codes, length, take, sym, ap, subst, ◌∙◌}
 use Rattle.std.proofs.lemmas.Bool.{not-true}
-use Rattle.attr_rules.specs.Parameters.{is_out}
-use Rattle.attr_rules.specs.Lengths.{copied_length}
+use Rattle.edl_interface.specs.Parameters.{is_out}
+use Rattle.edl_interface.specs.Lengths.{copied_length}
 use Rattle.call_report.specs.Report.{value_line, hex_text, put_length}
 use Rattle.call_report.proofs.EcallLaws.{out_line_step, not_zero}
 use Rattle.call_report.proofs.ecalls.append_out_line.Goals as goal

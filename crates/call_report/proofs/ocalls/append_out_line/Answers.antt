@@ -1,6 +1,6 @@
 use Rattle.std.proofs.Common.{rules, ℕ, ◌≡◌, ◌++◌, ◌==◌, true, false, codes, sym, ap, ◌∙◌}
 use Rattle.std.proofs.lemmas.Bool.{not-true}
-use Rattle.attr_rules.specs.Parameters.{is_marshalled, is_out}
+use Rattle.edl_interface.specs.Parameters.{is_marshalled, is_out}
 use Rattle.call_report.specs.Report.{value_line, hex_text, buffer_length}
 use Rattle.call_report.proofs.EcallLaws.{not_zero}
 use Rattle.call_report.proofs.OcallLaws.{out_line_step}

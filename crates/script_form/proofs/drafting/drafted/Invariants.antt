@@ -5,8 +5,8 @@ use Rattle.script_form.proofs.drafting.drafted.Given as goal
 
 abbrev pub invariant-loop-line : goal.invariant-loop-line
 invariant-loop-line l = record {
-  rest : form.drafted l.function (l.number + 1) l.draft l.later ≡ form.drafted l.function 1 form.first_draft (lines l.bytes);
-  size : length l.draft.host ≡ 4096;
+  rest : form.drafted l.functions (l.number + 1) l.draft l.later ≡ form.drafted l.functions 1 (form.first_draft l.functions) (lines l.bytes);
+  size : form.IsSized l.draft;
   room : l.number + length l.later ≤ 134217728;
 }
 

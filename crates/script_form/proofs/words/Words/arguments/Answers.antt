@@ -1,4 +1,4 @@
-use Rattle.std.proofs.Common.{◌≡◌, ◌<◌, ◌+◌, ◌∷◌, ◌++◌, [], length, suc, drop, get_or, arith, sym, ◌∙◌, ap, drop-cons}
+use Rattle.std.proofs.Common.{◌≡◌, ◌<◌, ◌+◌, ◌∷◌, ◌++◌, [], length, suc, drop, get_or, arith, sym, ◌∙◌, ap, drop-cons, false}
 use Rattle.script_form.specs.Line.{arguments}
 use Rattle.script_form.proofs.ArgumentLaws.{with_front, one_argument}
 use Rattle.script_form.proofs.words.Words.arguments.Goals as goal
@@ -11,7 +11,7 @@ loop-param-preserved c =
     let next : suc i ≡ i + 1 = omega arith in
     let here : drop i params ≡ c.param-item.result ∷ drop (i + 1) params =
     drop-cons params i c.param-item.result low ∙ ap (λ p. p ∷ drop (suc i) params) (sym c.param-item.is) ∙ ap (λ n. c.param-item.result ∷ drop n params) next in
-    ap (λ args. with_front args (arguments 44 (drop (i + 1) params) c.argument.new.self)) c.in_ok-push.ensures.ok
-    ∙ sym (one_argument c.loop-param.mark c.param-item.result (drop (i + 1) params) c.loop-param.self c.loop-param.args c.in_ok-argument.argument c.expect.new.self c.argument.new.self
-    c.in_ok-expect.ensures c.in_ok-argument.ensures)
-    ∙ ap (λ ps. with_front c.loop-param.args (arguments c.loop-param.mark ps c.loop-param.self)) (sym here) ∙ c.loop-param.invariant
+    ap (λ args. with_front args (arguments false (drop (i + 1) params) c.argument.new.self)) c.in_ok-push.ensures.ok
+    ∙ sym (one_argument c.loop-param.first c.param-item.result (drop (i + 1) params) c.loop-param.self c.loop-param.args c.in_ok-argument.argument c.comma.new.self c.argument.new.self
+    c.in_ok-comma.ensures c.in_ok-argument.ensures)
+    ∙ ap (λ ps. with_front c.loop-param.args (arguments c.loop-param.first ps c.loop-param.self)) (sym here) ∙ c.loop-param.invariant

@@ -1,4 +1,0 @@
-pub mod FirstInterface
-pub mod Tokens
-pub mod Reading
-pub mod Form
