@@ -1,0 +1,17 @@
+pub mod ActLaws
+pub mod SummedBodies
+pub mod CopiesBack
+pub mod CopiesIn
+pub mod CopyResults
+pub mod EcallRecord
+pub mod FrameBlock
+pub mod HostCalls
+pub mod HostFrames
+pub mod Marshalled
+pub mod OneReport
+pub mod PlainEcall
+pub mod PlainEntry
+pub mod RefusedLoads
+pub mod Results
+pub mod RunLaws
+pub mod StringLaws

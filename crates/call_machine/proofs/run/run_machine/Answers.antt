@@ -1,0 +1,16 @@
+use Rattle.call_machine.proofs.RunLaws.{report_of_run, report_of_shown, cut_of_run}
+use Rattle.call_machine.proofs.run.run_machine.Goals as goal
+
+pub returns-in-Err-clause-full : goal.returns-in-Err-clause-full
+returns-in-Err-clause-full c =
+    cut_of_run c.args.machine.now c.in_ok-port.port c.run_thread-ran.new.port c.in_ok-records.records c.in_ok-tcs.tcs c.first_acts.result.now c.in-Err.full
+    (record { port_is = c.in_ok-port.ensures; records_are = c.in_ok-records.ensures; context = c.in_ok-tcs.ensures.context; waits = c.in_ok-tcs.ensures.waits; acts_are = c.first_acts.ensures.acts })
+    c.in-Err.ensures.full c.log-log.ensures.legal
+
+pub returns-clause-ok : goal.returns-clause-ok
+returns-clause-ok c =
+    let ok = c.in_default.ensures.ok in
+    report_of_run c.args.machine.now c.in_ok-port.port c.run_thread-ran.new.port c.in_ok-records.records c.run_thread-ran.new.records c.in_ok-tcs.tcs c.run_thread-ran.new.tcs c.first_acts.result.now ok.0 _
+    (record { port_is = c.in_ok-port.ensures; records_are = c.in_ok-records.ensures; context = c.in_ok-tcs.ensures.context; waits = c.in_ok-tcs.ensures.waits; acts_are = c.first_acts.ensures.acts })
+    ok.1 ok.2 c.log-log.ensures.legal c.log-log.ensures.limit
+    (report_of_shown c.args.machine.now.interface _ _ _ _ _ c.in_ok-report.ensures c.list.ensures.list c.log-log.ensures.log)

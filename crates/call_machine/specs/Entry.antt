@@ -1,0 +1,177 @@
+-- How the engine's entry of an ECALL stands to its behaviour: blocks of the arena for lists of bytes, and steps of the port for its runs.
+use Rattle.std.specs.Prelude.{ℕ, ◌≡◌, ◌<◌, ◌^◌, ◌==◌, if◌then◌else◌, true, false, List, [], ◌∷◌, ◌++◌, length, sum, Option, Some, None, unwrap_or, slice_get, Result, Ok, Err, IsTrue, All}
+use Rattle.sgx_base.specs.Bytes.{is_divisible}
+use Rattle.sgx_base.specs.Ranges.{is_mapped}
+use Rattle.sgx_base.specs.declared.Status.{Status}
+use Rattle.sgx_base.specs.declared.TheConstants.Status.{SUCCESS}
+use Rattle.edl_interface.specs.declared.Function.{Function}
+use Rattle.edl_interface.specs.declared.Param.{Param}
+use Rattle.edl_interface.specs.Parameters.{marshalled, is_out, address_in}
+use Rattle.edl_interface.specs.Lengths.{length_in, copied_length}
+use Rattle.word_port.specs.declared.Step.{Step}
+use Rattle.word_port.specs.declared.Side.TheVariants.{Enclave}
+use Rattle.word_port.specs.declared.Kind.TheVariants.{Load}
+use Rattle.word_port.specs.declared.RunFull.TheVariants.{Steps}
+use Rattle.word_port.specs.Interaction.{Interaction, ret, map_value}
+use Rattle.word_port.specs.Limits.{progress}
+use Rattle.word_port.specs.Port.{PortState, with_steps}
+use Rattle.word_port.specs.Runs.{Makes, Runs, StopsAt}
+use Rattle.enclave_memory.specs.declared.Block.{Block}
+use Rattle.enclave_memory.specs.Memory.{Memory, IsBlock, IsPush, room_of}
+use Rattle.body_vm.specs.declared.Action.{Action}
+use Rattle.body_vm.specs.declared.Action.TheVariants.{Sum}
+use Rattle.call_copy.specs.Copies.{copy_in, copy_out}
+use Rattle.call_report.specs.declared.CallRecord.{CallRecord}
+use Rattle.call_machine.specs.declared.Machine.{Machine}
+use Rattle.call_machine.specs.Context.{Context}
+use Rattle.call_machine.specs.Ecall.{Answered, Finished, Ocalls, shape_of, copies_in, entered, loaded_entry}
+
+-- an answered entry whose answer begins at a place of the log, and in which no call was made
+abbrev pub answered_at : ℕ → Answered
+answered_at turn = record { turn = turn; records = [] }
+
+-- an entry's answer by its place, or its refusal
+abbrev pub ends_as : Result ℕ Status → Result Answered Status
+ends_as (Ok turn) = Ok (answered_at turn)
+ends_as (Err status) = Err status
+
+-- the record of an entry that began so, once it has ended
+abbrev pub ended_record : CallRecord → ℕ → ℕ → Result ℕ Status → CallRecord
+ended_record begun first last (Ok turn) = record begun { status = SUCCESS; first = first; turn = turn; last = last }
+ended_record begun first last (Err status) = record begun { status = status; first = first; turn = last; last = last }
+
+-- whatever OCALLs do, the port has made an entry that ended so
+abbrev pub EntryRuns : Machine → Context → ℕ → ℕ → PortState → PortState → Result ℕ Status → Type 0
+EntryRuns m cx ordinal address old new answer =
+    (ocalls : Ocalls) (records waits : ℕ) → Runs (entered m ocalls cx ordinal address) (progress old records waits) (progress new records waits) (ends_as answer)
+
+-- whatever OCALLs do, the port's log became full in an entry
+abbrev pub EntryStops : Machine → Context → ℕ → ℕ → PortState → PortState → Type 0
+EntryStops m cx ordinal address old new =
+    (ocalls : Ocalls) (records waits : ℕ) → StopsAt Steps (entered m ocalls cx ordinal address) (progress old records waits) new
+
+-- whatever OCALLs do, the port has made an entry that ended so, once its frame was loaded
+abbrev pub LoadedRuns : Machine → ℕ → ℕ → ℕ → Function → List ℕ → PortState → PortState → Result ℕ Status → Type 0
+LoadedRuns m room ordinal address f frame old new answer =
+    (ocalls : Ocalls) (cx : Context) (records waits : ℕ) → cx.room ≡ room
+    → Runs (loaded_entry m ocalls cx ordinal address f frame) (progress old records waits) (progress new records waits) (ends_as answer)
+
+-- whatever OCALLs do, the port's log became full in an entry, once its frame was loaded
+abbrev pub LoadedStops : Machine → ℕ → ℕ → ℕ → Function → List ℕ → PortState → PortState → Type 0
+LoadedStops m room ordinal address f frame old new =
+    (ocalls : Ocalls) (cx : Context) (records waits : ℕ) → cx.room ≡ room
+    → StopsAt Steps (loaded_entry m ocalls cx ordinal address f frame) (progress old records waits) new
+
+-- a step that loads a word, by the enclave
+pub record IsEnclaveLoad (s : Step) : Type 0 where
+  pub side : s.side ≡ Enclave
+  pub kind : s.kind ≡ Load
+
+-- the port has made loads by the enclave, and no other step
+pub record OnlyLoads (old new : PortState) : Type 0 where
+  pub steps : List Step
+  pub grown : new ≡ with_steps old steps
+  pub loads : All IsEnclaveLoad steps
+
+-- the range that a marshalled parameter points to has a length of 64 bits, and is one of host memory where the pointer is not null
+pub record IsPlaced (host : ℕ) (f : Function) (frame : List ℕ) (p : Param) : Type 0 where
+  pub length_fits : length_in f frame p < 2 ^ 64
+  pub mapped : (address_in frame p == 0) ≡ false → IsTrue (is_mapped host (address_in frame p) (length_in f frame p))
+
+-- a copy that is there, or its refusal
+abbrev pub some_copy : Result (List ℕ) Status → Result (Option (List ℕ)) Status
+some_copy (Ok bytes) = Ok (Some bytes)
+some_copy (Err status) = Err status
+
+-- the copy of one parameter, or its refusal; null where its pointer or its length is 0
+abbrev pub copy_of : Function → List ℕ → ℕ → Param → Interaction (Result (Option (List ℕ)) Status)
+copy_of f frame room p =
+    if copied_length f frame p == 0 then ret (Ok None)
+    else map_value some_copy (copy_in (shape_of p.class) (address_in frame p) (length_in f frame p) room)
+
+-- the block, null or not, has these bytes
+abbrev pub HasBlock : Memory → Option Block → Option (List ℕ) → Type 0
+HasBlock m None None = Unit {0}
+HasBlock m (Some block) (Some bytes) = (number : ℕ) × IsBlock m block number bytes
+HasBlock m _ _ = ⊥
+
+-- the blocks have these bytes, one by one
+abbrev pub HasBlocks : Memory → List (Option Block) → List (Option (List ℕ)) → Type 0
+HasBlocks m [] [] = Unit {0}
+HasBlocks m (block ∷ blocks) (bytes ∷ rest) = HasBlock m block bytes × HasBlocks m blocks rest
+HasBlocks m _ _ = ⊥
+
+-- the block was pushed with these bytes, or it is null and nothing changed
+abbrev pub IsPushed : Memory → Memory → Option Block → Option (List ℕ) → Type 0
+IsPushed before after None None = after ≡ before
+IsPushed before after (Some block) (Some bytes) = IsPush before after block bytes
+IsPushed before after _ _ = ⊥
+
+-- a parameter was copied in, as this block or as null
+pub record IsCopied (f : Function) (frame : List ℕ) (p : Param) (before after : Memory) (old new : PortState) (block : Option Block) : Type 0 where
+  pub bytes : Option (List ℕ)
+  pub pushed : IsPushed before after block bytes
+  pub made : Makes (copy_of f frame (room_of before) p) old new (Ok bytes)
+
+-- blocks were pushed, or none
+pub record HasGrown (before after : Memory) : Type 0 where
+  pub pushed : List (List ℕ)
+  pub grown : after ≡ record before { blocks = before.blocks ++ pushed }
+
+-- the marshalled parameters were copied in, as these blocks
+pub record AreCopied (f : Function) (frame : List ℕ) (before after : Memory) (old new : PortState) (blocks : List (Option Block)) : Type 0 where
+  pub bytes : List (Option (List ℕ))
+  pub have : HasBlocks after blocks bytes
+  pub made : Makes (copies_in f frame (room_of before) (marshalled f)) old new (Ok (record { blocks = bytes; room = room_of after }))
+
+-- a copy that is not null is as long as its parameter says, in whole elements
+pub record IsCopyOf (f : Function) (frame : List ℕ) (p : Param) (bytes : List ℕ) : Type 0 where
+  pub not_null : (address_in frame p == 0) ≡ false
+  pub some : 0 < length bytes
+  pub length_is : length bytes ≡ length_in f frame p
+  pub whole : is_divisible (length bytes) (shape_of p.class).unit ≡ true
+
+-- the copies are those of these parameters, one by one
+abbrev pub AreCopiesOf : Function → List ℕ → List Param → List (Option (List ℕ)) → Type 0
+AreCopiesOf f frame [] [] = Unit {0}
+AreCopiesOf f frame (p ∷ params) (None ∷ copies) = AreCopiesOf f frame params copies
+AreCopiesOf f frame (p ∷ params) (Some bytes ∷ copies) = IsCopyOf f frame p bytes × AreCopiesOf f frame params copies
+AreCopiesOf f frame _ _ = ⊥
+
+-- a copy may be put back at its parameter's address
+pub record FitsBack (host : ℕ) (frame : List ℕ) (p : Param) (bytes : List ℕ) : Type 0 where
+  pub mapped : IsTrue (is_mapped host (address_in frame p) (length bytes))
+  pub some : 0 < length bytes
+  pub whole : is_divisible (length bytes) (shape_of p.class).unit ≡ true
+
+-- and where it is null, nothing is put back
+abbrev pub IsBack : ℕ → List ℕ → Param → Option (List ℕ) → Type 0
+IsBack host frame p None = Unit {0}
+IsBack host frame p (Some bytes) = FitsBack host frame p bytes
+
+-- puts the copy of an `out` parameter back
+abbrev pub copy_back : List ℕ → Param → Option (List ℕ) → Interaction (Unit {0})
+copy_back frame p None = ret tt
+copy_back frame p (Some bytes) = if is_out p.class then copy_out (shape_of p.class) (address_in frame p) bytes else ret tt
+
+-- the place of the block whose bytes a body sums up, where it does
+abbrev pub summed_place : List Action → Option ℕ
+summed_place (Sum register place ∷ rest) = Some place
+summed_place _ = None
+
+-- the bytes of a block, none where it is null
+abbrev pub bytes_of : Option (List ℕ) → List ℕ
+bytes_of block = unwrap_or block []
+
+-- the sum of the bytes of the block at a place, 0 where it is null
+abbrev pub sum_at : List (Option (List ℕ)) → Option ℕ → ℕ
+sum_at blocks None = 0
+sum_at blocks (Some place) = sum (bytes_of (unwrap_or (slice_get blocks place) None))
+
+-- the value of a body that gives the sum of a block's bytes, or 0
+abbrev pub sum_value : List Action → List (Option (List ℕ)) → ℕ
+sum_value actions blocks = sum_at blocks (summed_place actions)
+
+-- such a body leaves its blocks as they are
+abbrev pub summed : List Action → List (Option (List ℕ)) → Finished
+summed actions blocks = record { value = sum_value actions blocks; blocks = blocks; records = [] }

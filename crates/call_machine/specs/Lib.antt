@@ -1,0 +1,14 @@
+pub mod Acts
+pub mod Calls
+pub mod Context
+pub mod Ecall
+pub mod Entry
+pub mod Ocall
+pub mod Plain
+pub mod Refusal
+pub mod Reported
+pub mod Result
+pub mod Run
+pub mod Served
+pub mod Tcs
+pub mod Thread

@@ -1,0 +1,80 @@
+//! The frame that the host writes for a call: the fields of its arguments.
+
+ghost use Rattle.std.specs.Prelude.{◌≡◌, ◌≤◌, ◌+◌, length, replicate, All, true};
+ghost use Rattle.sgx_base.specs.Bytes.{low_bytes, with_bytes_at};
+ghost use Rattle.edl_interface.specs.Parameters.{field_size, IsWordSized};
+ghost use Rattle.edl_interface.specs.Runnable.{field_end};
+ghost use Rattle.call_machine.specs.Calls.{argument_address, call_frame, field_bytes, with_field};
+ghost use Rattle.call_script.specs.PlainScript.{IsArgument, AreArguments};
+
+use call_script::{CallArg, Place};
+use edl_interface::{Function, Param};
+use sgx_base::little_endian_bytes;
+
+/// The address that a pointer is passed by a host thread, and 0 of an argument that is no pointer.
+///
+/// Outside of a handler a place in its frame is counted from 0.
+pub(crate) fn address_of(arg: &CallArg) -> u64
+    ensures { result ≡ argument_address 0 arg.now }
+{
+    match arg {
+        CallArg::At(Place::At(address)) => *address,
+        CallArg::At(Place::InFrame(offset)) => u64::from(*offset),
+        CallArg::Null | CallArg::Number(_) | CallArg::Bytes(_) => 0,
+    }
+}
+
+/// Writes the low bytes of a number, at most 8, at a place of a frame.
+fn put_number(frame: &mut [u8], at: usize, size: usize, number: u64)
+    requires few { size ≤ 8 }
+    requires fits { at + size ≤ length frame.old }
+    ensures { frame.new ≡ with_bytes_at frame.old at (low_bytes size number) }
+{
+    let bytes = little_endian_bytes(number);
+    frame[at..at + size].copy_from_slice(&bytes[..size]);
+}
+
+/// Writes an argument in its field of a frame: an address, the low bytes of a number, or the bytes of another value.
+fn put_argument(param: &Param, arg: &CallArg, frame: &mut [u8])
+    requires word { IsWordSized param.now.class }
+    requires arg { IsArgument param.now.class arg.now }
+    requires fits { param.now.offset + field_size param.now.class ≤ length frame.old }
+    ensures { frame.new ≡ with_bytes_at frame.old param.now.offset (field_bytes 0 (field_size param.now.class) arg.now) }
+{
+    let at = param.offset as usize;
+    let size = param.class.field_size() as usize;
+    match arg {
+        CallArg::At(_) => put_number(frame, at, size, address_of(arg)),
+        CallArg::Null => put_number(frame, at, size, 0),
+        CallArg::Number(number) => put_number(frame, at, size, *number),
+        CallArg::Bytes(bytes) => frame[at..at + size].copy_from_slice(bytes.as_slice()),
+    }
+}
+
+/// Writes an argument in its field of a frame, and the length of a string right behind its address.
+fn put_field(param: &Param, arg: &CallArg, text_length: u64, frame: &mut [u8])
+    requires word { IsWordSized param.now.class }
+    requires arg { IsArgument param.now.class arg.now }
+    requires fits { field_end true param.now ≤ length frame.old }
+    ensures { frame.new ≡ with_field 0 frame.old (param.now, arg.now, text_length) }
+{
+    put_argument(param, arg, frame);
+    if param.class.is_text() {
+        put_number(frame, param.offset as usize + 8, 8, text_length);
+    }
+}
+
+/// Writes each argument in its field of a frame that is all zeros.
+pub(crate) fn fill_frame(function: &Function, args: &[CallArg], lengths: &[u64], frame: &mut [u8])
+    requires words { All (λ p. IsWordSized p.class) function.now.params }
+    requires fields { All (λ p. field_end true p ≤ function.now.frame_size) function.now.params }
+    requires args { AreArguments function.now.params args.now }
+    requires lengths { length lengths.now ≡ length args.now }
+    requires zeros { frame.old ≡ replicate function.now.frame_size 0 }
+    ensures { frame.new ≡ call_frame function.now 0 args.now lengths.now }
+{
+    let params = function.params.as_slice();
+    for i in 0..args.len() {
+        put_field(&params[i], &args[i], lengths[i], frame);
+    }
+}

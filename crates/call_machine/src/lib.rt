@@ -1,0 +1,29 @@
+//! Entries, OCALLs and what the host does, over an interface and a script.
+#![tactic(auto)]
+
+mod arguments;
+mod bodies;
+mod entry;
+mod fields;
+mod host;
+mod marshalling;
+mod report_laws;
+mod run;
+mod strings;
+mod tcs;
+
+use call_script::Script;
+use edl_interface::Interface;
+pub use entry::ecall;
+pub use fields::{check_fields, check_frame};
+pub use host::run_thread;
+pub use report_laws::one_report_law;
+pub use run::{RECORD_LIMIT, RunFault, STEP_LIMIT, first_acts, first_port, first_tcs, run_machine};
+pub use tcs::Tcs;
+
+/// An interface, and a script for it.
+#[derive(Debug, Drop)]
+pub struct Machine {
+    pub interface: Interface,
+    pub script: Script,
+}
