@@ -1,0 +1,11 @@
+pub mod BackLaws
+pub mod CopyingLaws
+pub mod EntryLaws
+pub mod KeepingLaws
+pub mod LoadsAlone
+pub mod OcallLaws
+pub mod PlaceLaws
+pub mod RunParts
+pub mod TransferLaws
+pub mod UndisturbedLaws
+pub mod WithinLaws

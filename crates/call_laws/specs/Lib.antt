@@ -1,0 +1,8 @@
+pub mod Answering
+pub mod Copying
+pub mod Examples
+pub mod Lengths
+pub mod Refusing
+pub mod Transfers
+pub mod Undisturbed
+pub mod Within
