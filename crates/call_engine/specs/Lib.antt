@@ -1,14 +1,3 @@
-pub mod Acts
-pub mod Calls
-pub mod Context
-pub mod Ecall
-pub mod Narrow
-pub mod Ocall
 pub mod Prepared
-pub mod Refusal
-pub mod Reported
-pub mod Result
-pub mod Run
-pub mod Served
-pub mod Tcs
-pub mod Thread
+pub mod RootFile
+pub mod Taken

@@ -1,16 +1,21 @@
 //! From the names of files to a machine.
 
-ghost use Rattle.std.specs.Prelude.{ℕ, List, ◌≡◌, ◌≤◌, ◌⊎◌, Option, Some, None, Ok, Err, IfSome, IfOk, IfErr, vec_len};
+ghost use Rattle.std.specs.Prelude.{ℕ, List, ◌≡◌, ◌≤◌, ◌<◌, ◌^◌, ◌⊎◌, length, Option, Some, None, Ok, Err, IfSome, IfOk, IfErr, vec_len};
 ghost use Rattle.sgx_base.specs.Stores.{Store, max_file_size};
-ghost use Rattle.edl_form.specs.FirstInterface.{IsFirstInterface};
-ghost use Rattle.script_form.specs.FirstScript.{IsFirstScript};
-ghost use Rattle.call_engine.specs.Narrow.{IsFirstMachine};
-ghost use Rattle.call_engine.specs.Prepared.{prepared, script_found, shown, GivesInterface, HasCause, HasFileCause, AreKept};
+ghost use Rattle.call_script.specs.PlainScript.{IsPlainScript};
+ghost use Rattle.script_form.specs.Form.{script_form};
+ghost use Rattle.edl_interface.specs.Sound.{IsSound};
+ghost use Rattle.call_machine.specs.Plain.{IsPlainInterface, IsPlainMachine};
+ghost use Rattle.attr_rules.specs.ForRun.{AreForRun};
+ghost use Rattle.call_engine.specs.RootFile.{IsRead, IsMisread, IsTaken, IsRefused, no_foreign};
+ghost use Rattle.call_engine.specs.Prepared.{shown, Prepares, GivesRoot, HasCause, HasFileCause, IsEdlFault, IsMachineOf, IsMachineFault, IsScriptFault, AreKept};
 
 use crate::Machine;
-use attr_rules::Interface;
+use crate::root_file::{read_root, taken_interface};
+use attr_rules::RuleFault;
 use call_script::{Script, ScriptFault};
-use edl_form::{EdlFormFault, read_edl};
+use edl_interface::Interface;
+use edl_parser::Gathered;
 use script_form::read_script;
 use sgx_base::{Fault, FileFault, Files, Name, Word};
 use std::alloc::{AllocError, Global};
@@ -40,14 +45,6 @@ impl From<AllocError> for PrepareFault {
     }
 }
 
-/// A file that is not of the form is refused at its first byte.
-const OTHER_FORM: Fault = Fault {
-    file: 0,
-    line: 1,
-    column: 1,
-    code: 6,
-};
-
 fn not_found(alloc: Global, name: &str) -> PrepareFault
     ensures { (result ≡ PrepareFault.Memory) ⊎ (result ≡ PrepareFault.NotFound name.now) }
 {
@@ -69,17 +66,15 @@ fn not_read(alloc: Global, name: &str, fault: FileFault) -> PrepareFault
     }
 }
 
-fn of_other_form(alloc: Global, edl: &str, fault: EdlFormFault) -> PrepareFault
-    ensures { (result ≡ PrepareFault.Memory) ⊎ ((result ≡ PrepareFault.Edl edl.now OTHER_FORM) × (fault ≡ EdlFormFault.OtherForm)) }
+/// A fault of the EDL file of this name.
+fn of_edl(alloc: Global, edl: &str, fault: RuleFault) -> PrepareFault
+    ensures { (result ≡ PrepareFault.Memory) ⊎ ((f : Fault) × (fault ≡ RuleFault.Rule f) × (result ≡ PrepareFault.Edl edl.now f)) }
 {
-    let EdlFormFault::OtherForm = fault else {
+    let RuleFault::Rule(fault) = fault else {
         return PrepareFault::Memory;
     };
     match Name::new(alloc, edl.as_bytes()) {
-        Ok(name) => PrepareFault::Edl {
-            name,
-            fault: OTHER_FORM,
-        },
+        Ok(name) => PrepareFault::Edl { name, fault },
         Err(_) => PrepareFault::Memory,
     }
 }
@@ -98,46 +93,82 @@ fn read_file<F: Files>(alloc: Global, files: &mut F, name: &str) -> Result<Vec<u
     }
 }
 
-fn read_interface<F: Files>(
-    alloc: Global,
-    files: &mut F,
-    edl: &str,
-) -> Result<Interface, PrepareFault>
-    ensures ok { IfOk result (λ i. GivesInterface (F.contents files.old) edl.now i) }
-    ensures first { IfOk result (λ i. IsFirstInterface i) }
+/// What the EDL file says, of which these are the bytes.
+fn root_of(alloc: Global, edl: &str, bytes: &[u8]) -> Result<Gathered, PrepareFault>
+    requires { length bytes.now ≤ max_file_size }
+    ensures ok { IfOk result (IsRead edl.now bytes.now) }
+    ensures few { IfOk result (λ g. length g.files < 2 ^ 32) }
+    ensures for_run { IfOk result (λ g. AreForRun g no_foreign) }
+    ensures err { IfErr result (IsEdlFault edl.now (IsMisread bytes.now)) }
+{
+    match read_root(alloc, edl, bytes) {
+        Ok(gathered) => Ok(gathered),
+        Err(fault) => Err(of_edl(alloc, edl, fault)),
+    }
+}
+
+fn read_edl<F: Files>(alloc: Global, files: &mut F, edl: &str) -> Result<Gathered, PrepareFault>
+    ensures ok { IfOk result (λ g. GivesRoot (F.contents files.old) edl.now g) }
+    ensures few { IfOk result (λ g. length g.files < 2 ^ 32) }
+    ensures for_run { IfOk result (λ g. AreForRun g no_foreign) }
     ensures err { (script : List ℕ) → IfErr result (λ fault. HasCause edl.now script (shown (F.contents files.old) (F.read_faults files.old) (F.misses files.old)) (shown (F.contents files.new) (F.read_faults files.new) (F.misses files.new)) fault) }
     ensures kept { AreKept (shown (F.contents files.old) (F.read_faults files.old) (F.misses files.old)) (shown (F.contents files.new) (F.read_faults files.new) (F.misses files.new)) }
     ensures write_faults { F.write_faults files.new ≡ F.write_faults files.old }
 {
     let bytes = read_file(alloc, files, edl)?;
-    match read_edl(alloc, &bytes) {
+    root_of(alloc, edl, &bytes)
+}
+
+/// The interface of what the EDL file says.
+fn interface_of(alloc: Global, edl: &str, gathered: &Gathered) -> Result<Interface, PrepareFault>
+    requires few { length gathered.now.files < 2 ^ 32 }
+    requires for_run { AreForRun gathered.now no_foreign }
+    ensures ok { IfOk result (IsTaken gathered.now) }
+    ensures sound { IfOk result IsSound }
+    ensures plain { IfOk result IsPlainInterface }
+    ensures err { IfErr result (IsEdlFault edl.now (IsRefused gathered.now)) }
+{
+    match taken_interface(alloc, gathered) {
         Ok(interface) => Ok(interface),
-        Err(fault) => Err(of_other_form(alloc, edl, fault)),
+        Err(fault) => Err(of_edl(alloc, edl, fault)),
     }
 }
 
-fn read_script_for<F: Files>(
-    alloc: Global,
-    files: &mut F,
-    interface: &Interface,
-    script: &str,
-) -> Result<Script, PrepareFault>
-    requires { IsFirstInterface interface.now }
-    ensures ok { IfOk result (λ s. IfSome (F.contents files.old) (λ store. script_found script.now interface.now (store script.now) ≡ Ok (record { interface = interface.now; script = s }))) }
-    ensures first { IfOk result (λ s. IsFirstScript interface.now s) }
-    ensures err { (edl : List ℕ) → GivesInterface (F.contents files.old) edl interface.now → IfErr result (λ fault. HasCause edl script.now (shown (F.contents files.old) (F.read_faults files.old) (F.misses files.old)) (shown (F.contents files.new) (F.read_faults files.new) (F.misses files.new)) fault) }
-    ensures kept { AreKept (shown (F.contents files.old) (F.read_faults files.old) (F.misses files.old)) (shown (F.contents files.new) (F.read_faults files.new) (F.misses files.new)) }
-    ensures write_faults { F.write_faults files.new ≡ F.write_faults files.old }
+fn script_of(alloc: Global, interface: &Interface, text: &[u8]) -> Result<Script, PrepareFault>
+    requires sound { IsSound interface.now }
+    requires short { length text.now ≤ max_file_size }
+    ensures ok { IfOk result (λ s. script_form interface.now text.now ≡ Ok s) }
+    ensures plain { IfOk result (λ s. IsPlainScript interface.now s) }
+    ensures err { IfErr result (IsScriptFault interface.now text.now) }
 {
-    let bytes = read_file(alloc, files, script)?;
-    match read_script(alloc, &bytes, interface) {
+    match read_script(alloc, text, interface) {
         Ok(script) => Ok(script),
         Err(ScriptFault::Rule { line, code }) => Err(PrepareFault::Script { line, code }),
         Err(ScriptFault::Memory) => Err(PrepareFault::Memory),
     }
 }
 
-/// The machine of an EDL file and a script of the first form. Files are read whole, the EDL file first.
+/// The machine of what the EDL file says and of a script's text.
+fn machine_of(
+    alloc: Global,
+    edl: &str,
+    gathered: &Gathered,
+    text: &[u8],
+) -> Result<Machine, PrepareFault>
+    requires few { length gathered.now.files < 2 ^ 32 }
+    requires for_run { AreForRun gathered.now no_foreign }
+    requires short { length text.now ≤ max_file_size }
+    ensures ok { IfOk result (λ m. IsMachineOf gathered.now text.now m) }
+    ensures plain { IfOk result (λ m. IsPlainMachine m) }
+    ensures err { IfErr result (IsMachineFault edl.now gathered.now text.now) }
+{
+    let interface = interface_of(alloc, edl, gathered)?;
+    let script = script_of(alloc, &interface, text)?;
+    Ok(Machine { interface, script })
+}
+
+/// The machine of an EDL file and a script. Files are read whole, and the EDL file is a sentence before the script is
+/// looked for.
 pub fn prepare<F: Files>(
     alloc: Global,
     files: &mut F,
@@ -146,13 +177,13 @@ pub fn prepare<F: Files>(
     script: &str,
     _racing: bool,
 ) -> Result<Machine, PrepareFault>
-    ensures first { IfOk result (λ m. IsFirstMachine m) }
-    ensures ok { IfOk result (λ m. IfSome (F.contents files.old) (λ store. prepared store edl.now script.now ≡ Ok m)) }
+    ensures plain { IfOk result (λ m. IsPlainMachine m) }
+    ensures ok { IfOk result (λ m. IfSome (F.contents files.old) (λ store. Prepares store edl.now script.now (Ok m))) }
     ensures err { IfErr result (λ fault. HasCause edl.now script.now (shown (F.contents files.old) (F.read_faults files.old) (F.misses files.old)) (shown (F.contents files.new) (F.read_faults files.new) (F.misses files.new)) fault) }
     ensures kept { F.contents files.new ≡ F.contents files.old }
     ensures write_faults { F.write_faults files.new ≡ F.write_faults files.old }
 {
-    let interface = read_interface(alloc, files, edl)?;
-    let script = read_script_for(alloc, files, &interface, script)?;
-    Ok(Machine { interface, script })
+    let gathered = read_edl(alloc, files, edl)?;
+    let text = read_file(alloc, files, script)?;
+    machine_of(alloc, edl, &gathered, &text)
 }

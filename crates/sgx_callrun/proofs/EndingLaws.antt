@@ -6,11 +6,11 @@ use Rattle.sgx_base.specs.declared.sink.SinkFault.{SinkFault}
 use Rattle.sgx_base.specs.declared.sink.SinkFault.TheVariants.{Failed, Memory}
 use Rattle.std.specs.declared.alloc.AllocError.{AllocError}
 use Rattle.word_port.specs.declared.RunFull.{RunFull}
-use Rattle.call_engine.specs.declared.Machine.{Machine}
+use Rattle.call_machine.specs.declared.Machine.{Machine}
 use Rattle.call_engine.specs.declared.preparing.PrepareFault.{PrepareFault}
 use Rattle.call_engine.specs.declared.preparing.PrepareFault.TheVariants.{Edl as edl_fault, Script as script_fault}
-use Rattle.call_engine.specs.Prepared.{Shown, Gives, prepared}
-use Rattle.call_engine.specs.Reported.{IsCutBy}
+use Rattle.call_engine.specs.Prepared.{Shown, Gives, Prepares}
+use Rattle.call_machine.specs.Reported.{IsCutBy}
 use Rattle.sgx_callrun.specs.declared.callrun.Ending.{Ending}
 use Rattle.sgx_callrun.specs.declared.callrun.Ending.TheVariants.{Usage, Edl, Script, Unread, Missing, Reported, Cut}
 use Rattle.sgx_callrun.specs.Endings.{AreNames, HasFileCause, HasCause, status_of}
@@ -38,49 +38,44 @@ second (x ∷ xs) = first xs
 same_names : (words : List (List ℕ)) (a b c d : List ℕ) → AreNames words a b → AreNames words c d → (a ≡ c) × (b ≡ d)
 same_names words a b c d p q = (ap first (sym p.two ∙ q.two), ap second (sym p.two ∙ q.two))
 
-abbrev IsFault : Result Machine PrepareFault → Type 0
-IsFault (Ok m) = ⊥
-IsFault (Err fault) = Unit {0}
-
-no_fault : (fault : PrepareFault) (m : Machine) (answer : Result Machine PrepareFault) → answer ≡ Err fault → answer ≡ Ok m → ⊥
-no_fault fault m answer p q = subst IsFault (sym p ∙ q) tt
-
-abbrev machine_in : Machine → Result Machine PrepareFault → Machine
-machine_in other (Ok m) = m
-machine_in other (Err fault) = other
-
-decided : (before : Shown) (edl script : List ℕ) (store : Store) (answer : Result Machine PrepareFault) → before.contents ≡ Some store → Gives before.contents edl script answer → prepared store edl script ≡ answer
+decided : (before : Shown) (edl script : List ℕ) (store : Store) (answer : Result Machine PrepareFault) → before.contents ≡ Some store → Gives before.contents edl script answer → Prepares store edl script answer
 decided before edl script store answer told gives = subst (λ (contents : Option Store). Gives contents edl script answer) told gives
 
-done_by_files : (edl script : List ℕ) (before after : Shown) (ending : Ending) (store : Store) (m : Machine) → HasFileCause edl script before after ending
-    → before.contents ≡ Some store → prepared store edl script ≡ Ok m
-    → ¬ Rose before.read_faults after.read_faults → ¬ Rose before.misses after.misses → ((full : RunFull) → ¬ IsCutBy m full) → status_of ending ≡ 0
-done_by_files edl script before after Usage store m h told ok read miss cut = absurd h
-done_by_files edl script before after (Edl name fault) store m h told ok read miss cut = absurd (no_fault (edl_fault name fault) m (prepared store edl script) (decided before edl script store (Err (edl_fault name fault)) told h.1) ok)
-done_by_files edl script before after (Script name line code) store m h told ok read miss cut = absurd (no_fault (script_fault line code) m (prepared store edl script) (decided before edl script store (Err (script_fault line code)) told h.1) ok)
-done_by_files edl script before after (Unread name) store m h told ok read miss cut = absurd (read h.0)
-done_by_files edl script before after (Missing name) store m h told ok read miss cut = absurd (miss h.0)
-done_by_files edl script before after (Reported text) store m h told ok read miss cut = refl
-done_by_files edl script before after (Cut full) store m (n, gives, stopped) told ok read miss cut =
-    let same : n ≡ m = ap (machine_in n) (sym (decided before edl script store (Ok n) told gives) ∙ ok) in
-    absurd (cut full (subst (λ (x : Machine). IsCutBy x full) same stopped))
+-- no file has a fault
+abbrev NoFault : Store → List ℕ → List ℕ → Type 0
+NoFault store edl script = (fault : PrepareFault) → ¬ Prepares store edl script (Err fault)
+
+-- no limit cuts the thread of the machine
+abbrev NoCut : Store → List ℕ → List ℕ → Type 0
+NoCut store edl script = (m : Machine) (full : RunFull) → Prepares store edl script (Ok m) → ¬ IsCutBy m full
+
+done_by_files : (edl script : List ℕ) (before after : Shown) (ending : Ending) (store : Store) → HasFileCause edl script before after ending
+    → before.contents ≡ Some store → NoFault store edl script
+    → ¬ Rose before.read_faults after.read_faults → ¬ Rose before.misses after.misses → NoCut store edl script → status_of ending ≡ 0
+done_by_files edl script before after Usage store h told ok read miss cut = absurd h
+done_by_files edl script before after (Edl name fault) store h told ok read miss cut = absurd (ok (edl_fault edl fault) (decided before edl script store (Err (edl_fault edl fault)) told h.1))
+done_by_files edl script before after (Script name line code) store h told ok read miss cut = absurd (ok (script_fault line code) (decided before edl script store (Err (script_fault line code)) told h.1))
+done_by_files edl script before after (Unread name) store h told ok read miss cut = absurd (read h.0)
+done_by_files edl script before after (Missing name) store h told ok read miss cut = absurd (miss h.0)
+done_by_files edl script before after (Reported text) store h told ok read miss cut = refl
+done_by_files edl script before after (Cut full) store (m, gives, stopped) told ok read miss cut = absurd (cut m full (decided before edl script store (Ok m) told gives) stopped)
 
 done_by_names : (words : List (List ℕ)) (a b edl script : List ℕ) (before after : Shown) (ending : Ending) → AreNames words a b → AreNames words edl script → HasFileCause a b before after ending → HasFileCause edl script before after ending
 done_by_names words a b edl script before after ending p q h =
     let same = same_names words a b edl script p q in
     subst (λ (s : List ℕ). HasFileCause edl s before after ending) same.1 (subst (λ (e : List ℕ). HasFileCause e b before after ending) same.0 h)
 
--- where the files give a machine, nothing fails and no limit cuts its thread, the call ends with the report
-pub ends_done : (words : List (List ℕ)) (before after : Shown) (ending : Ending) (edl script : List ℕ) (store : Store) (m : Machine) → HasCause words before after ending
-    → AreNames words edl script → before.contents ≡ Some store → prepared store edl script ≡ Ok m
-    → ¬ Rose before.read_faults after.read_faults → ¬ Rose before.misses after.misses → ((full : RunFull) → ¬ IsCutBy m full) → status_of ending ≡ 0
-ends_done words before after Usage edl script store m h names told ok read miss cut = absurd (h edl script names)
-ends_done words before after (Edl name fault) edl script store m (a, b, p, h) names told ok read miss cut = done_by_files edl script before after (Edl name fault) store m (done_by_names words a b edl script before after (Edl name fault) p names h) told ok read miss cut
-ends_done words before after (Script name line code) edl script store m (a, b, p, h) names told ok read miss cut = done_by_files edl script before after (Script name line code) store m (done_by_names words a b edl script before after (Script name line code) p names h) told ok read miss cut
-ends_done words before after (Unread name) edl script store m (a, b, p, h) names told ok read miss cut = done_by_files edl script before after (Unread name) store m (done_by_names words a b edl script before after (Unread name) p names h) told ok read miss cut
-ends_done words before after (Missing name) edl script store m (a, b, p, h) names told ok read miss cut = done_by_files edl script before after (Missing name) store m (done_by_names words a b edl script before after (Missing name) p names h) told ok read miss cut
-ends_done words before after (Reported text) edl script store m h names told ok read miss cut = refl
-ends_done words before after (Cut full) edl script store m (a, b, p, h) names told ok read miss cut = done_by_files edl script before after (Cut full) store m (done_by_names words a b edl script before after (Cut full) p names h) told ok read miss cut
+-- where the files have no fault, nothing fails and no limit cuts its thread, the call ends with the report
+pub ends_done : (words : List (List ℕ)) (before after : Shown) (ending : Ending) (edl script : List ℕ) (store : Store) → HasCause words before after ending
+    → AreNames words edl script → before.contents ≡ Some store → NoFault store edl script
+    → ¬ Rose before.read_faults after.read_faults → ¬ Rose before.misses after.misses → NoCut store edl script → status_of ending ≡ 0
+ends_done words before after Usage edl script store h names told ok read miss cut = absurd (h edl script names)
+ends_done words before after (Edl name fault) edl script store (a, b, p, h) names told ok read miss cut = done_by_files edl script before after (Edl name fault) store (done_by_names words a b edl script before after (Edl name fault) p names h) told ok read miss cut
+ends_done words before after (Script name line code) edl script store (a, b, p, h) names told ok read miss cut = done_by_files edl script before after (Script name line code) store (done_by_names words a b edl script before after (Script name line code) p names h) told ok read miss cut
+ends_done words before after (Unread name) edl script store (a, b, p, h) names told ok read miss cut = done_by_files edl script before after (Unread name) store (done_by_names words a b edl script before after (Unread name) p names h) told ok read miss cut
+ends_done words before after (Missing name) edl script store (a, b, p, h) names told ok read miss cut = done_by_files edl script before after (Missing name) store (done_by_names words a b edl script before after (Missing name) p names h) told ok read miss cut
+ends_done words before after (Reported text) edl script store h names told ok read miss cut = refl
+ends_done words before after (Cut full) edl script store (a, b, p, h) names told ok read miss cut = done_by_files edl script before after (Cut full) store (done_by_names words a b edl script before after (Cut full) p names h) told ok read miss cut
 
 -- a call whose sink does not refuse has the status of its ending, or memory ran out
 pub written_or_memory : {T : Type 0} (written : Result T SinkFault) (status result old new : ℕ) → OnOk written (result ≡ status) → (written ≡ Err Memory → result ≡ 6)

@@ -1,8 +1,8 @@
 -- What the statuses of the program mean.
 use Rattle.std.specs.Prelude.{ℕ, ◌≡◌, ◌++◌, List, take, Option, option_map, IfSome, Ok}
-use Rattle.call_engine.specs.declared.Machine.{Machine}
+use Rattle.call_machine.specs.declared.Machine.{Machine}
 use Rattle.call_engine.specs.Prepared.{Shown, Gives}
-use Rattle.call_engine.specs.Reported.{IsReportOf}
+use Rattle.call_machine.specs.Reported.{IsReportOf}
 use Rattle.sgx_callrun.specs.declared.callrun.Ending.{Ending}
 use Rattle.sgx_callrun.specs.Endings.{AreNames, HasCause, status_of, text_of}
 

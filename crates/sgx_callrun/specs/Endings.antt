@@ -2,11 +2,12 @@
 use Rattle.std.specs.Prelude.{ℕ, ◌≡◌, ◌++◌, false, Bool, List, [], ◌∷◌, codes, decimal, Ok}
 use Rattle.std.specs.List.{starts_with}
 use Rattle.std.specs.Prelude.{nat_eq}
+use Rattle.sgx_base.specs.Messages.{edl_message, script_message}
 use Rattle.sgx_base.specs.declared.Fault.{Fault}
-use Rattle.call_engine.specs.declared.Machine.{Machine}
+use Rattle.call_machine.specs.declared.Machine.{Machine}
 use Rattle.call_engine.specs.declared.preparing.PrepareFault.TheVariants.{Edl as edl_fault, Script as script_fault, NotFound, ReadFault}
 use Rattle.call_engine.specs.Prepared.{Shown, HasCause as IsUnprepared, Gives}
-use Rattle.call_engine.specs.Reported.{IsReportOf, IsCutBy}
+use Rattle.call_machine.specs.Reported.{IsReportOf, IsCutBy}
 use Rattle.sgx_callrun.specs.declared.callrun.Ending.{Ending}
 use Rattle.sgx_callrun.specs.declared.callrun.Ending.TheVariants.{Usage, Edl, Script, Unread, Missing, Reported, Cut}
 
@@ -45,19 +46,19 @@ status_of (Missing name) = 7
 status_of (Reported text) = 0
 status_of (Cut full) = 8
 
--- a place in a file of another form
-abbrev pub other_form_at : ℕ → ℕ → List ℕ
-other_form_at line column = codes ":" ++ (decimal line ++ (codes ":" ++ (decimal column ++ codes ": error E6: unexpected token or end\n")))
+-- a place in an EDL file, and what is wrong there
+abbrev pub edl_line : Fault → List ℕ
+edl_line fault = codes ":" ++ (decimal fault.line ++ (codes ":" ++ (decimal fault.column ++ (codes ": error E" ++ (decimal fault.code ++ (codes ": " ++ (edl_message fault.code ++ codes "\n")))))))
 
--- a line of a script that is not understood
-abbrev pub not_understood_at : ℕ → List ℕ
-not_understood_at line = codes ":" ++ (decimal line ++ codes ": script S1: line not understood\n")
+-- a line of a script, and what is wrong there
+abbrev pub script_line : ℕ → ℕ → List ℕ
+script_line line code = codes ":" ++ (decimal line ++ (codes ": script S" ++ (decimal code ++ (codes ": " ++ (script_message code ++ codes "\n")))))
 
 -- what is written at an ending: a line, or the report
 abbrev pub text_of : Ending → List ℕ
 text_of Usage = codes "usage: sgx_callrun FILE SCRIPT\n"
-text_of (Edl name fault) = name ++ other_form_at fault.line fault.column
-text_of (Script name line code) = name ++ not_understood_at line
+text_of (Edl name fault) = name ++ edl_line fault
+text_of (Script name line code) = name ++ script_line line code
 text_of (Unread name) = codes "read fault: " ++ (name ++ codes "\n")
 text_of (Missing name) = codes "not found: " ++ (name ++ codes "\n")
 text_of (Reported text) = text

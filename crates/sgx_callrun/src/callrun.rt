@@ -4,14 +4,14 @@ ghost use Rattle.std.specs.Prelude.{ℕ, List, ◌≡◌, ◌≢◌, ◌++◌, �
 ghost use Rattle.sgx_base.specs.Counts.{Rose};
 ghost use Rattle.sgx_base.specs.Stores.{Store};
 ghost use Rattle.word_port.specs.declared.RunFull.{RunFull};
-ghost use Rattle.call_engine.specs.declared.Machine.{Machine};
-ghost use Rattle.call_engine.specs.Prepared.{Shown, shown, prepared, HasCause as IsUnprepared};
-ghost use Rattle.call_engine.specs.Reported.{IsCutBy};
-ghost use Rattle.sgx_callrun.specs.Endings.{is_option as is_option_word, AreNames, HasFileCause, HasCause, status_of, text_of as text_of_ending, other_form_at, not_understood_at};
+ghost use Rattle.call_machine.specs.declared.Machine.{Machine};
+ghost use Rattle.call_engine.specs.Prepared.{Shown, shown, Prepares, HasCause as IsUnprepared};
+ghost use Rattle.call_machine.specs.Reported.{IsCutBy};
+ghost use Rattle.sgx_callrun.specs.Endings.{is_option as is_option_word, AreNames, HasFileCause, HasCause, status_of, text_of as text_of_ending, edl_line, script_line};
 ghost use Rattle.sgx_callrun.specs.Answers.{GrewBy, IsAnswered, IsBroken, IsDone};
 
 use call_engine::{PrepareFault, RunFault, prepare, run_machine};
-use sgx_base::{Fault, Files, Name, Sink, SinkFault, Word};
+use sgx_base::{Fault, Files, Name, Sink, SinkFault, Word, edl_message, script_message};
 use sqlite_items::Items;
 use std::alloc::{AllocError, Global};
 use word_port::RunFull;
@@ -71,20 +71,23 @@ fn joined(alloc: Global, first: &[u8], second: &[u8]) -> Result<Vec<u8>, AllocEr
     Ok(text)
 }
 
-fn other_form_text(alloc: Global, name: &Name, fault: &Fault) -> Result<Vec<u8>, AllocError>
-    ensures { IfOk result (λ text. text.items ≡ name.now ++ other_form_at fault.now.line fault.now.column) }
+fn edl_text(alloc: Global, name: &Name, fault: &Fault) -> Result<Vec<u8>, AllocError>
+    ensures { IfOk result (λ text. text.items ≡ name.now ++ edl_line fault.now) }
 {
     let line = fault.line;
     let column = fault.column;
-    let place = format!(in alloc; ":{line}:{column}: error E6: unexpected token or end\n")?;
-    joined(alloc, name.bytes(), place.as_bytes())
+    let code = fault.code;
+    let message = edl_message(code);
+    let told = format!(in alloc; ":{line}:{column}: error E{code}: {message}\n")?;
+    joined(alloc, name.bytes(), told.as_bytes())
 }
 
-fn not_understood_text(alloc: Global, name: &Name, line: u32) -> Result<Vec<u8>, AllocError>
-    ensures { IfOk result (λ text. text.items ≡ name.now ++ not_understood_at line) }
+fn script_text(alloc: Global, name: &Name, line: u32, code: u8) -> Result<Vec<u8>, AllocError>
+    ensures { IfOk result (λ text. text.items ≡ name.now ++ script_line line code) }
 {
-    let place = format!(in alloc; ":{line}: script S1: line not understood\n")?;
-    joined(alloc, name.bytes(), place.as_bytes())
+    let message = script_message(code);
+    let told = format!(in alloc; ":{line}: script S{code}: {message}\n")?;
+    joined(alloc, name.bytes(), told.as_bytes())
 }
 
 /// A line that ends in a name.
@@ -101,8 +104,8 @@ fn text_of(alloc: Global, ending: &Ending) -> Result<Vec<u8>, AllocError>
 {
     match ending {
         Ending::Usage => Vec::from_slice(alloc, b"usage: sgx_callrun FILE SCRIPT\n"),
-        Ending::Edl { name, fault } => other_form_text(alloc, name, fault),
-        Ending::Script { name, line, .. } => not_understood_text(alloc, name, *line),
+        Ending::Edl { name, fault } => edl_text(alloc, name, fault),
+        Ending::Script { name, line, code } => script_text(alloc, name, *line, *code),
         Ending::Unread(name) => name_text(alloc, "read fault: ", name),
         Ending::Missing(name) => name_text(alloc, "not found: ", name),
         Ending::Reported(text) => Vec::from_slice(alloc, text.as_slice()),
@@ -196,9 +199,9 @@ pub fn callrun<F: Files, O: Sink>(alloc: Global, words: &[Word], files: &mut F, 
     ensures answered { result ≢ REFUSED → result ≢ MEMORY → IsAnswered words.now (shown (F.contents files.old) (F.read_faults files.old) (F.misses files.old)) (shown (F.contents files.new) (F.read_faults files.new) (F.misses files.new)) (O.written out.old) (O.written out.new) result }
     ensures refused { result ≡ REFUSED → Rose (O.faults out.old) (O.faults out.new) × IsBroken words.now (shown (F.contents files.old) (F.read_faults files.old) (F.misses files.old)) (shown (F.contents files.new) (F.read_faults files.new) (F.misses files.new)) (O.written out.old) (O.written out.new) }
     ensures memory { result ≡ MEMORY → (O.written out.new ≡ O.written out.old) ⊎ IsBroken words.now (shown (F.contents files.old) (F.read_faults files.old) (F.misses files.old)) (shown (F.contents files.new) (F.read_faults files.new) (F.misses files.new)) (O.written out.old) (O.written out.new) }
-    ensures complete { (edl script : List ℕ) (store : Store) (m : Machine) → AreNames words.now edl script → F.contents files.old ≡ Some store → prepared store edl script ≡ Ok m
-        → ¬ Rose (F.read_faults files.old) (F.read_faults files.new) → ¬ Rose (F.misses files.old) (F.misses files.new) → ¬ Rose (O.faults out.old) (O.faults out.new) → ((full : RunFull) → ¬ IsCutBy m full)
-        → (result ≡ 0) ⊎ (result ≡ MEMORY) }
+    ensures complete { (edl script : List ℕ) (store : Store) → AreNames words.now edl script → F.contents files.old ≡ Some store → ((fault : PrepareFault) → ¬ Prepares store edl script (Err fault))
+        → ¬ Rose (F.read_faults files.old) (F.read_faults files.new) → ¬ Rose (F.misses files.old) (F.misses files.new) → ¬ Rose (O.faults out.old) (O.faults out.new)
+        → ((m : Machine) (full : RunFull) → Prepares store edl script (Ok m) → ¬ IsCutBy m full) → (result ≡ 0) ⊎ (result ≡ MEMORY) }
     ensures kept { F.contents files.new ≡ F.contents files.old }
     ensures write_faults { F.write_faults files.new ≡ F.write_faults files.old }
 {
@@ -295,20 +298,6 @@ mod tests {
             failing_sink: &[],
         };
         assert!(rt; check(a, &empty, 0, b"")?);
-        let other_file = Case {
-            edl: Some(b"enclave { };"),
-            script: Some(b""),
-            failing_files: &[],
-            failing_sink: &[],
-        };
-        assert!(rt;
-            check(
-                a,
-                &other_file,
-                2,
-                b"a.edl:1:1: error E6: unexpected token or end\n"
-            )?
-        );
         let other_script = Case {
             edl: Some(EDL),
             script: Some(b"peek 0x10000 1\n"),
@@ -337,6 +326,84 @@ mod tests {
             failing_sink: &[],
         };
         assert!(rt; check(a, &no_script, 7, b"not found: s.txt\n")?);
+        Ok(())
+    }
+
+    /// A call on this EDL file and an empty script, whose text is of a fault of the file.
+    fn refuses(alloc: Global, edl: &[u8], text: &[u8]) -> Result<bool, AllocError> {
+        let case = Case {
+            edl: Some(edl),
+            script: Some(b""),
+            failing_files: &[],
+            failing_sink: &[],
+        };
+        check(alloc, &case, 2, text)
+    }
+
+    #[test]
+    fn edl_faults(rt: HostRuntime) -> Result<(), Fail> {
+        let a = rt.alloc();
+        assert!(rt;
+            refuses(
+                a,
+                b"enclave { untrusted { void o(); }; };",
+                b"a.edl:1:1: error E38: the runner does not take this\n"
+            )?
+        );
+        assert!(rt;
+            refuses(
+                a,
+                b"enclave { trusted { public void f(); void g(); }; };",
+                b"a.edl:1:1: error E38: the runner does not take this\n"
+            )?
+        );
+        assert!(rt;
+            refuses(
+                a,
+                b"enclave { $ };",
+                b"a.edl:1:11: error E1: byte not allowed\n"
+            )?
+        );
+        assert!(rt;
+            refuses(
+                a,
+                b"enclave {",
+                b"a.edl:1:10: error E6: unexpected token or end\n"
+            )?
+        );
+        assert!(rt;
+            refuses(
+                a,
+                b"enclave { trusted { public void f(uint8_t* p); }; };",
+                b"a.edl:1:44: error E15: pointer needs a direction or user_check\n"
+            )?
+        );
+        assert!(rt;
+            refuses(
+                a,
+                b"enclave { struct s { struct t x; }; };",
+                b"a.edl:1:29: error E12: unknown type\n"
+            )?
+        );
+        assert!(rt;
+            refuses(
+                a,
+                b"enclave { from \"b.edl\" import *; };",
+                b"a.edl:1:16: error E11: too many files\n"
+            )?
+        );
+        Ok(())
+    }
+
+    #[test]
+    fn script_before_layouts(rt: HostRuntime) -> Result<(), Fail> {
+        let case = Case {
+            edl: Some(b"enclave { struct s { struct t x; }; };"),
+            script: None,
+            failing_files: &[],
+            failing_sink: &[],
+        };
+        assert!(rt; check(rt.alloc(), &case, 7, b"not found: s.txt\n")?);
         Ok(())
     }
 

@@ -2,6 +2,8 @@
 #![tactic(auto)]
 
 mod callrun;
+#[cfg(test)]
+mod class_tests;
 
 use callrun::{MEMORY, callrun};
 use sgx_base::{DiskFiles, StdSink, Word};

@@ -1,5 +1,0 @@
-use Rattle.call_engine.proofs.OneReport.{one_report}
-use Rattle.call_engine.proofs.report_laws.one_report_law.Goals as goal
-
-pub returns : goal.returns
-returns c = one_report
