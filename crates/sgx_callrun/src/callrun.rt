@@ -298,6 +298,13 @@ mod tests {
             failing_sink: &[],
         };
         assert!(rt; check(a, &empty, 0, b"")?);
+        let no_functions = Case {
+            edl: Some(b"enclave { };"),
+            script: Some(b""),
+            failing_files: &[],
+            failing_sink: &[],
+        };
+        assert!(rt; check(a, &no_functions, 0, b"")?);
         let other_script = Case {
             edl: Some(EDL),
             script: Some(b"peek 0x10000 1\n"),

@@ -13,7 +13,8 @@ struct Row<'a> {
     text: &'a [u8],
 }
 
-fn is_met(alloc: Global, row: &Row) -> Result<bool, AllocError> {
+/// The status of a row's run is this one, and its text is the row's.
+fn has_status(alloc: Global, row: &Row, wanted: u8) -> Result<bool, AllocError> {
     let mut files = MemFiles::new(alloc, &[])?;
     files.put("a.edl", row.edl)?;
     files.put("s.txt", row.script)?;
@@ -22,7 +23,11 @@ fn is_met(alloc: Global, row: &Row) -> Result<bool, AllocError> {
     words.push(Word::new(alloc, "a.edl")?)?;
     words.push(Word::new(alloc, "s.txt")?)?;
     let status = callrun(alloc, words.as_slice(), &mut files, &mut out);
-    Ok(status == 0 && out.written() == row.text)
+    Ok(status == wanted && out.written() == row.text)
+}
+
+fn is_met(alloc: Global, row: &Row) -> Result<bool, AllocError> {
+    has_status(alloc, row, 0)
 }
 
 const SUM: &[u8] =
@@ -212,5 +217,22 @@ fn a_frame_too_large(rt: HostRuntime) -> Result<(), Fail> {
         text: b"ecall 0 h 0x0 ordinary 0x0001\n",
     };
     assert!(rt; is_met(rt.alloc(), &row)?);
+    Ok(())
+}
+
+/// 17 calls of 65,000 bytes make more than 1,048,576 steps.
+#[test]
+fn a_run_too_long(rt: HostRuntime) -> Result<(), Fail> {
+    let mut script = Vec::new(rt.alloc());
+    script.extend_from_slice(b"host 65536\narena 65536\n")?;
+    for _ in 0..17 {
+        script.extend_from_slice(b"call f(@0x10000, 65000)\n")?;
+    }
+    let row = Row {
+        edl: SUM,
+        script: script.as_slice(),
+        text: b"full: thread 0\n",
+    };
+    assert!(rt; has_status(rt.alloc(), &row, 8)?);
     Ok(())
 }
