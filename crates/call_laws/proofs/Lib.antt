@@ -9,3 +9,4 @@ pub mod RunParts
 pub mod TransferLaws
 pub mod UndisturbedLaws
 pub mod WithinLaws
+pub mod PlainBodies

@@ -8,6 +8,7 @@ ghost use Rattle.word_port.specs.Events.{Event, steps_of, HasPlaces};
 ghost use Rattle.word_port.specs.Interaction.{IsRun};
 ghost use Rattle.call_machine.specs.declared.Machine.{Machine};
 ghost use Rattle.call_machine.specs.Context.{Context};
+ghost use Rattle.call_machine.specs.Plain.{IsPlainMachine};
 ghost use Rattle.call_machine.specs.Ecall.{Ocalls, Answered, entered};
 ghost use Rattle.call_machine.specs.Ocall.{Handlers, ocall_by};
 ghost use Rattle.call_laws.specs.Answering.{IsAnsweredRun};
@@ -56,6 +57,11 @@ pub fn ocalls_keep_lengths_law()
 pub fn no_races_law()
     ensures copies { (m : Machine) (ocalls : Ocalls) (cx : Context) (ordinal address : ℕ) (words : List ℕ) (events : List Event) (done : Answered) → IsRun (entered m ocalls cx ordinal address) events (Ok done) → AreLegal words events → IsUndisturbedRun m ocalls cx ordinal address words events }
     ensures direct { (m : Machine) (ocalls : Ocalls) (cx : Context) (ordinal address : ℕ) (words : List ℕ) (events : List Event) (done : Answered) → IsQuiet m ordinal → IsRun (entered m ocalls cx ordinal address) events (Ok done) → AreLegal words events → IsDirectCall m ordinal address words events }
+{}
+
+/// A machine that the engine runs has such bodies: they leave the lengths of blocks, and ask for nothing.
+pub fn plain_bodies_law()
+    ensures { (m : Machine) (ordinal : ℕ) → IsPlainMachine m → IsSoundBody m ordinal × IsQuiet m ordinal }
 {}
 
 /// A small machine and runs of its ECALL, as they are computed.
