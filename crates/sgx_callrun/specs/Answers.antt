@@ -3,6 +3,7 @@ use Rattle.std.specs.Prelude.{ℕ, ◌≡◌, ◌++◌, List, take, Option, opti
 use Rattle.call_machine.specs.declared.Machine.{Machine}
 use Rattle.call_engine.specs.Prepared.{Shown, Gives}
 use Rattle.call_machine.specs.Reported.{IsReportOf}
+use Rattle.run_laws.specs.Reports.{IsProtectedReport}
 use Rattle.sgx_callrun.specs.declared.callrun.Ending.{Ending}
 use Rattle.sgx_callrun.specs.Endings.{AreNames, HasCause, status_of, text_of}
 
@@ -33,4 +34,5 @@ pub record IsDone (words : List (List ℕ)) (before : Shown) (old new : Option (
   pub gives : Gives before.contents edl script (Ok machine)
   pub text : List ℕ
   pub report : IsReportOf machine text
+  pub protected : IsProtectedReport machine text
   pub grew : GrewBy text old new

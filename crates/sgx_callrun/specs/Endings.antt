@@ -8,6 +8,7 @@ use Rattle.call_machine.specs.declared.Machine.{Machine}
 use Rattle.call_engine.specs.declared.preparing.PrepareFault.TheVariants.{Edl as edl_fault, Script as script_fault, NotFound, ReadFault}
 use Rattle.call_engine.specs.Prepared.{Shown, HasCause as IsUnprepared, Gives}
 use Rattle.call_machine.specs.Reported.{IsReportOf, IsCutBy}
+use Rattle.run_laws.specs.Reports.{IsProtectedReport}
 use Rattle.sgx_callrun.specs.declared.callrun.Ending.{Ending}
 use Rattle.sgx_callrun.specs.declared.callrun.Ending.TheVariants.{Usage, Edl, Script, Unread, Missing, Reported, Cut}
 
@@ -28,7 +29,7 @@ HasFileCause edl script before after (Edl name fault) = IsUnprepared edl script 
 HasFileCause edl script before after (Script name line code) = (name ≡ script) × IsUnprepared edl script before after (script_fault line code)
 HasFileCause edl script before after (Unread name) = IsUnprepared edl script before after (ReadFault name)
 HasFileCause edl script before after (Missing name) = IsUnprepared edl script before after (NotFound name)
-HasFileCause edl script before after (Reported text) = (m : Machine) × Gives before.contents edl script (Ok m) × IsReportOf m text
+HasFileCause edl script before after (Reported text) = (m : Machine) × Gives before.contents edl script (Ok m) × IsReportOf m text × IsProtectedReport m text
 HasFileCause edl script before after (Cut full) = (m : Machine) × Gives before.contents edl script (Ok m) × IsCutBy m full
 
 -- why a call with these words ends so: the words are no two names, or by what the files are

@@ -1,0 +1,16 @@
+pub mod ActLaws
+pub mod BodyLaws
+pub mod CallLaws
+pub mod CallerLaws
+pub mod EcallLaws
+pub mod ExampleLaws
+pub mod FrameLaws
+pub mod Growth
+pub mod HostStack
+pub mod InHost
+pub mod OcallLaws
+pub mod Protects
+pub mod RefusalLaws
+pub mod Runs
+pub mod Stored
+pub mod Triples

@@ -1,0 +1,34 @@
+//! Laws of whole runs, as contracts: what every run of a machine's first thread keeps, whatever the words answer.
+#![tactic(auto)]
+
+ghost use Rattle.std.specs.Prelude.{ℕ, List};
+ghost use Rattle.word_port.specs.Limits.{Progress};
+ghost use Rattle.word_port.specs.Runs.{Runs};
+ghost use Rattle.call_machine.specs.declared.Machine.{Machine};
+ghost use Rattle.call_machine.specs.Result.{Outcome};
+ghost use Rattle.call_machine.specs.Plain.{IsPlainMachine};
+ghost use Rattle.call_machine.specs.Reported.{IsReportOf, beginning, first_thread};
+ghost use Rattle.run_laws.specs.Protected.{IsProtectedRun, IsSoundMachine};
+ghost use Rattle.run_laws.specs.Examples.{Examples};
+ghost use Rattle.run_laws.specs.Reports.{IsProtectedReport};
+
+/// Every run of a machine's first thread is protected, whatever its words answered: OCALLs may be nested as deep as the call stack goes.
+pub fn run_law()
+    ensures { (m : Machine) (limit : ℕ) (after : Progress) (outcome : Outcome) → IsSoundMachine m → Runs (first_thread m) (beginning m limit) after outcome → IsProtectedRun m outcome.records after.port.log }
+{}
+
+/// A machine that the engine takes is sound.
+pub fn plain_machine_law()
+    ensures { (m : Machine) → IsPlainMachine m → IsSoundMachine m }
+{}
+
+/// The report of a machine is that of a protected run.
+pub fn report_law()
+    ensures { (m : Machine) (text : List ℕ) → IsSoundMachine m → IsReportOf m text → IsProtectedReport m text }
+{}
+
+/// One run of a small machine as it is computed, which is protected; and logs and records that are no protected run of it:
+/// a load that is made once more, a store to a byte of no call, a refusal with another status than the first row's.
+pub fn examples()
+    ensures { Examples }
+{}
