@@ -122,6 +122,7 @@ plain_sound m plain = record {
 
 -- the report of a machine
 pub report_protected : (m : Machine) (text : List ℕ) → IsSoundMachine m → IsReportOf m text → IsProtectedReport m text
+unfolding IsProtectedReport
 report_protected m text sound r = record {
   records = r.outcome.records;
   log = r.after.port.log;
