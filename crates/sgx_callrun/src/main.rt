@@ -1,10 +1,6 @@
 //! Runs a script's calls of an enclave's functions, and prints what each call did.
 #![tactic(auto)]
 
-mod callrun;
-#[cfg(test)]
-mod class_tests;
-
 use callrun::{MEMORY, callrun};
 use sgx_base::{DiskFiles, StdSink, Word};
 use std::io::ErrorKind;

@@ -11,9 +11,9 @@ use Rattle.call_engine.specs.declared.preparing.PrepareFault.{PrepareFault}
 use Rattle.call_engine.specs.declared.preparing.PrepareFault.TheVariants.{Edl as edl_fault, Script as script_fault}
 use Rattle.call_engine.specs.Prepared.{Shown, Gives, Prepares}
 use Rattle.call_machine.specs.Reported.{IsCutBy}
-use Rattle.sgx_callrun.specs.declared.callrun.Ending.{Ending}
-use Rattle.sgx_callrun.specs.declared.callrun.Ending.TheVariants.{Usage, Edl, Script, Unread, Missing, Reported, Cut}
-use Rattle.sgx_callrun.specs.Endings.{AreNames, HasFileCause, HasCause, status_of}
+use Rattle.callrun.specs.declared.Ending.{Ending}
+use Rattle.callrun.specs.declared.Ending.TheVariants.{Usage, Edl, Script, Unread, Missing, Reported, Cut}
+use Rattle.callrun.specs.Endings.{AreNames, HasFileCause, HasCause, status_of}
 
 -- the cause of the files is one of the words that name them
 pub cause_of_names : (words : List (List ℕ)) (edl script : List ℕ) (before after : Shown) (result : Result Ending AllocError) → AreNames words edl script

@@ -4,8 +4,8 @@ use Rattle.call_machine.specs.declared.Machine.{Machine}
 use Rattle.call_engine.specs.Prepared.{Shown, Gives}
 use Rattle.call_machine.specs.Reported.{IsReportOf}
 use Rattle.run_laws.specs.Reports.{IsProtectedReport}
-use Rattle.sgx_callrun.specs.declared.callrun.Ending.{Ending}
-use Rattle.sgx_callrun.specs.Endings.{AreNames, HasCause, status_of, text_of}
+use Rattle.callrun.specs.declared.Ending.{Ending}
+use Rattle.callrun.specs.Endings.{AreNames, HasCause, status_of, text_of}
 
 -- the sink grew by exactly this text, where it tells what was written
 abbrev pub GrewBy : List ℕ → Option (List ℕ) → Option (List ℕ) → Type 0

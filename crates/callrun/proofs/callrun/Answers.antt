@@ -1,7 +1,7 @@
 use Rattle.std.proofs.Common.{◌∙◌}
 use Rattle.call_engine.specs.Prepared.{shown}
-use Rattle.sgx_callrun.proofs.EndingLaws.{ends_done, written_or_memory}
-use Rattle.sgx_callrun.proofs.callrun.callrun.Goals as goal
+use Rattle.callrun.proofs.EndingLaws.{ends_done, written_or_memory}
+use Rattle.callrun.proofs.callrun.Goals as goal
 
 pub returns-clause-complete : goal.returns-clause-complete
 returns-clause-complete g c = λ edl script store names told ok read miss sink cut.

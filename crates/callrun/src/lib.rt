@@ -1,4 +1,5 @@
-//! The top call: from words and files to one text and a status.
+//! The top call of the runner: from words and files to one text and a status.
+#![tactic(auto)]
 
 ghost use Rattle.std.specs.Prelude.{ℕ, List, ◌≡◌, ◌≢◌, ◌++◌, ◌⊎◌, ◌↔◌, false, take, Option, Some, Ok, Err, IfOk, IfErr, IfSome, OnOk, OnErr, option_map, codes};
 ghost use Rattle.sgx_base.specs.Counts.{Rose};
@@ -7,14 +8,17 @@ ghost use Rattle.word_port.specs.declared.RunFull.{RunFull};
 ghost use Rattle.call_machine.specs.declared.Machine.{Machine};
 ghost use Rattle.call_engine.specs.Prepared.{Shown, shown, Prepares, HasCause as IsUnprepared};
 ghost use Rattle.call_machine.specs.Reported.{IsCutBy};
-ghost use Rattle.sgx_callrun.specs.Endings.{is_option as is_option_word, AreNames, HasFileCause, HasCause, status_of, text_of as text_of_ending, edl_line, script_line};
-ghost use Rattle.sgx_callrun.specs.Answers.{GrewBy, IsAnswered, IsBroken, IsDone};
+ghost use Rattle.callrun.specs.Endings.{is_option as is_option_word, AreNames, HasFileCause, HasCause, status_of, text_of as text_of_ending, edl_line, script_line};
+ghost use Rattle.callrun.specs.Answers.{GrewBy, IsAnswered, IsBroken, IsDone};
 
 use call_engine::{PrepareFault, RunFault, prepare, run_machine};
 use sgx_base::{Fault, Files, Name, Sink, SinkFault, Word, edl_message, script_message};
 use sqlite_items::Items;
 use std::alloc::{AllocError, Global};
 use word_port::RunFull;
+
+#[cfg(test)]
+mod class_tests;
 
 /// The status where the sink refuses the text.
 const REFUSED: u8 = 5;

@@ -9,8 +9,8 @@ use Rattle.call_engine.specs.declared.preparing.PrepareFault.TheVariants.{Edl as
 use Rattle.call_engine.specs.Prepared.{Shown, HasCause as IsUnprepared, Gives}
 use Rattle.call_machine.specs.Reported.{IsReportOf, IsCutBy}
 use Rattle.run_laws.specs.Reports.{IsProtectedReport}
-use Rattle.sgx_callrun.specs.declared.callrun.Ending.{Ending}
-use Rattle.sgx_callrun.specs.declared.callrun.Ending.TheVariants.{Usage, Edl, Script, Unread, Missing, Reported, Cut}
+use Rattle.callrun.specs.declared.Ending.{Ending}
+use Rattle.callrun.specs.declared.Ending.TheVariants.{Usage, Edl, Script, Unread, Missing, Reported, Cut}
 
 -- whether a word is an option
 abbrev pub is_option : List ℕ → Bool

@@ -1,6 +1,6 @@
 //! Whole runs of calls with each class of parameter, under races.
 
-use crate::callrun::callrun;
+use crate::callrun;
 use sgx_base::{MemFiles, MemSink, Word};
 use std::alloc::{AllocError, Global};
 use std::test::Fail;

@@ -1,5 +1,5 @@
 use Rattle.call_engine.specs.Prepared.{shown}
-use Rattle.sgx_callrun.proofs.callrun.run_files.Goals as goal
+use Rattle.callrun.proofs.run_files.Goals as goal
 
 pub returns-in-Err-clause-cause : goal.returns-in-Err-clause-cause
 returns-in-Err-clause-cause g c =

@@ -1,9 +1,9 @@
 use Rattle.std.proofs.Common.{◌≡◌, rules, false}
 use Rattle.std.proofs.lemmas.Grind.{common_steps}
 use Rattle.call_engine.specs.Prepared.{shown}
-use Rattle.sgx_callrun.specs.Endings.{is_option}
-use Rattle.sgx_callrun.proofs.EndingLaws.{cause_of_names, two_names}
-use Rattle.sgx_callrun.proofs.callrun.run_words.Goals as goal
+use Rattle.callrun.specs.Endings.{is_option}
+use Rattle.callrun.proofs.EndingLaws.{cause_of_names, two_names}
+use Rattle.callrun.proofs.run_words.Goals as goal
 
 pub returns-in-len2-clause-cause : goal.returns-in-len2-clause-cause
 returns-in-len2-clause-cause g c =
