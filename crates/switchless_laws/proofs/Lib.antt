@@ -1,0 +1,12 @@
+pub mod Words
+pub mod OneStep
+pub mod OneSlot
+pub mod AllSlots
+pub mod Permutations
+pub mod Theorem
+pub mod Following
+pub mod CallerFollows
+pub mod WorkerFollows
+pub mod RolesKeep
+pub mod Writers
+pub mod Servers
