@@ -1,2 +1,6 @@
 pub mod Entry
 pub mod Stack
+pub mod Standing
+pub mod Lists
+pub mod Passes
+pub mod Tables
