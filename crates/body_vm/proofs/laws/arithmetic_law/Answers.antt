@@ -1,0 +1,11 @@
+use Rattle.body_vm.proofs.ActionLaws.{sum_is, difference_is, product_is}
+use Rattle.body_vm.proofs.laws.arithmetic_law.Goals as goal
+
+pub returns-clause-sum : goal.returns-clause-sum
+returns-clause-sum c = sum_is
+
+pub returns-clause-difference : goal.returns-clause-difference
+returns-clause-difference c = difference_is
+
+pub returns-clause-product : goal.returns-clause-product
+returns-clause-product c = product_is
