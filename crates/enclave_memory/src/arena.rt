@@ -6,13 +6,14 @@ ghost use Rattle.enclave_memory.specs.Layout.{taken_in};
 ghost use Rattle.enclave_memory.specs.Memory.{room_of, taken_by, IsBlock, IsLive, IsPush, IsWrite};
 
 use crate::Block;
+use crate::region::Region;
 use std::alloc::{AllocError, Global};
 use std::marker::Model;
 
 /// A stack of blocks of bytes in one piece of memory.
-#[derive(Debug, Drop)]
+#[derive(Debug)]
 pub struct Arena {
-    memory: Vec<u8>,
+    memory: Region,
     lengths: Vec<u32>,
     taken: u32,
 }
@@ -24,9 +25,9 @@ impl Model for Arena {
 
     ghost Value = { Memory };
 
-    ghost view = { λ a. memory_of a.lengths.items a.memory.items };
+    ghost view = { λ a. memory_of a.lengths.items a.memory.bytes };
 
-    ghost invariant = { λ a. IsLaidOut a.lengths.items a.memory.items a.taken (vec_capacity a.lengths) };
+    ghost invariant = { λ a. IsLaidOut a.lengths.items a.memory.bytes a.taken (vec_capacity a.lengths) };
 }
 
 impl Arena {
@@ -36,8 +37,8 @@ impl Arena {
         requires limit { size ≤ 65536 }
         ensures { IfOk result (λ arena. arena ≡ record { size = size; blocks = [] }) }
     {
-        let memory = vec![in alloc; 0u8; size as usize]?;
         let lengths = Vec::with_capacity(alloc, size as usize / 16)?;
+        let memory = Region::new(lengths.allocator(), size as usize)?;
         Ok(Arena {
             memory,
             lengths,
@@ -51,7 +52,7 @@ impl Arena {
         ensures sum { taken_by self.now.blocks + result ≡ self.now.size }
         ensures limit { self.now.size ≤ 65536 }
     {
-        self.memory.len() as u32 - self.taken
+        self.memory.bytes().len() as u32 - self.taken
     }
 
     /// How many bytes are taken.
@@ -86,7 +87,11 @@ impl Arena {
         ensures within { block.at + block.length ≤ self.now.size }
         ensures limit { self.now.size ≤ 65536 }
     {
-        part(&self.memory, block.at as usize, block.length as usize)
+        part(
+            self.memory.bytes(),
+            block.at as usize,
+            block.length as usize,
+        )
     }
 
     /// Writes bytes over those of a block, from the offset on.
@@ -96,7 +101,8 @@ impl Arena {
         ensures written { (number : ℕ) (old : List ℕ) → IsBlock self.old block number old → IsWrite self.old self.new block (with_bytes_at old offset bytes.now) }
         ensures number { (number : ℕ) (old : List ℕ) → IsBlock self.old block number old → self.new ≡ record self.old { blocks = slice_set self.old.blocks number (with_bytes_at old offset bytes.now) } }
     {
-        put(&mut self.memory, block.at as usize + offset as usize, bytes);
+        self.memory
+            .write(block.at as usize + offset as usize, bytes);
     }
 
     /// Sets every byte of a block to 0.
@@ -105,7 +111,7 @@ impl Arena {
         ensures written { IsWrite self.old self.new block (replicate block.length 0) }
         ensures number { (number : ℕ) (old : List ℕ) → IsBlock self.old block number old → self.new ≡ record self.old { blocks = slice_set self.old.blocks number (replicate block.length 0) } }
     {
-        clear(&mut self.memory, block.at as usize, block.length as usize);
+        self.memory.zero(block.at as usize, block.length as usize);
     }
 
     /// Sets every byte of a block from the offset on to 0.
@@ -114,8 +120,7 @@ impl Arena {
         requires within { offset ≤ block.length }
         ensures { (number : ℕ) (old : List ℕ) → IsBlock self.old block number old → self.new ≡ record self.old { blocks = slice_set self.old.blocks number (take offset old ++ replicate (block.length - offset) 0) } }
     {
-        clear(
-            &mut self.memory,
+        self.memory.zero(
             block.at as usize + offset as usize,
             (block.length - offset) as usize,
         );
@@ -126,13 +131,21 @@ impl Arena {
         requires { (k : ℕ) × (mark ≡ taken_by (take k self.old.blocks)) }
         ensures { (k : ℕ) → k ≤ length self.old.blocks → mark ≡ taken_by (take k self.old.blocks) → self.new ≡ record self.old { blocks = take k self.old.blocks } }
     {
-        clear(
-            &mut self.memory,
-            mark as usize,
-            (self.taken - mark) as usize,
-        );
+        self.memory
+            .zero(mark as usize, (self.taken - mark) as usize);
         unlist(&mut self.lengths, self.taken, mark);
         self.taken = mark;
+    }
+}
+
+impl Drop for Arena {
+    fn drop(self) {
+        let Arena {
+            memory,
+            lengths,
+            taken: _,
+        } = self;
+        memory.free(lengths.allocator());
     }
 }
 
@@ -171,44 +184,9 @@ fn push_length(lengths: &mut Vec<u32>, added: u32)
 }
 
 /// The bytes from a place on, so many.
-fn part(memory: &Vec<u8>, from: usize, count: usize) -> &[u8]
-    requires { from + count ≤ length memory.now.items }
-    ensures { result.now ≡ slice_range memory.now.items from (from + count) }
+fn part(memory: &[u8], from: usize, count: usize) -> &[u8]
+    requires { from + count ≤ length memory.now }
+    ensures { result.now ≡ slice_range memory.now from (from + count) }
 {
     &memory[from..from + count]
-}
-
-/// Writes bytes from a place on.
-fn put(memory: &mut Vec<u8>, from: usize, bytes: &[u8])
-    requires { from + length bytes.now ≤ length memory.old.items }
-    ensures { memory.new.items ≡ with_bytes_at memory.old.items from bytes.now }
-{
-    memory[from..from + bytes.len()].copy_from_slice(bytes);
-}
-
-/// Sets so many bytes from a place on to 0.
-fn clear(memory: &mut Vec<u8>, from: usize, count: usize)
-    requires { from + count ≤ length memory.old.items }
-    ensures { memory.new.items ≡ with_bytes_at memory.old.items from (replicate count 0) }
-{
-    memory[from..from + count].fill(0);
-}
-
-#[cfg(test)]
-mod tests {
-    use super::*;
-    use std::test::Fail;
-
-    #[test]
-    fn blocks_are_rounded(rt: HostRuntime) -> Result<(), Fail> {
-        let mut arena = Arena::new(rt.alloc(), 32)?;
-        let opening = arena.mark();
-        assert!(rt; arena.push_block(17).is_some());
-        assert_eq!(rt; arena.push_block(1), None);
-        assert_eq!(rt; arena.room(), 0);
-        arena.pop_to(opening);
-        assert!(rt; arena.push_block(32).is_some());
-        assert_eq!(rt; arena.room(), 0);
-        Ok(())
-    }
 }
