@@ -11,7 +11,8 @@ use sgx_base::Status;
 /// The status of the first row that refuses an entry, in the interface that the bridges are of.
 pub fn entry_check(bridges: &Bridges, stack: &CallStack, ordinal: u32) -> Result<(), Status>
     requires { MayTry bridges.now stack.now }
-    ensures { (interface : Interface) → bridges.now ≡ bridges_of interface → result ≡ unless_refused (first_row (entry_rows interface stack.now ordinal)) }
+    ensures { (interface : Interface) → bridges.now ≡ bridges_of interface
+        → result ≡ unless_refused (first_row (entry_rows interface stack.now ordinal)) }
 {
     let Some(bridge) = bridges.ecalls.get(ordinal as usize) else {
         return Err(Status::INVALID_FUNCTION);

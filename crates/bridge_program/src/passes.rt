@@ -75,7 +75,7 @@ fn push_entry(list: &mut Items<Instr>, number: u32, param: &Param) -> Result<(),
     push_if(list, param.class.is_text(), Instr::TextEnd(number))
 }
 
-/// Adds what is done for each parameter of a function in turn. A list of 2^32 of them has no room.
+/// Adds what is done for each parameter of a function in turn. A number that takes more than 32 bits is want of memory.
 pub(crate) fn push_each(
     list: &mut Items<Instr>,
     function: &Function,

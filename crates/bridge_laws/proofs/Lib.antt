@@ -1,0 +1,12 @@
+pub mod Trees
+pub mod Places
+pub mod Tests
+pub mod CopyingIn
+pub mod CopyingOut
+pub mod Whole
+pub mod Bare
+pub mod ProxyRefusals
+pub mod ProxyFrames
+pub mod ProxyReplies
+pub mod ProxyWhole
+pub mod Fields
