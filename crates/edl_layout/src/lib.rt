@@ -12,11 +12,7 @@ mod extents;
 mod faults;
 mod filling;
 mod frames;
-#[cfg(test)]
-mod function_tests;
 mod functions;
-#[cfg(test)]
-mod layout_tests;
 mod layouts;
 mod offsets;
 mod orders;

@@ -10,8 +10,6 @@ ghost use Rattle.edl_lexer.specs.declared.LexFault.TheVariants.{Memory};
 
 mod place;
 mod scan;
-#[cfg(test)]
-mod tests;
 
 use place::{Place, advance, start};
 use scan::{Flaw, Lexeme, lexeme_after};

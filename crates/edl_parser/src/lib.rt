@@ -22,8 +22,6 @@ mod functions;
 mod items;
 mod phrases;
 mod places;
-#[cfg(test)]
-mod tests;
 
 use cursor::{Cursor, Stop};
 use depth::first_deep;

@@ -1,64 +1,23 @@
-//! Layouts as a C compiler gives them, and the places of the faults of types.
+//! Layouts as a C compiler gives them, of types and of fields one behind the other.
 
 ghost use Rattle.std.specs.Prelude.{◌≤◌, length};
 ghost use Rattle.sgx_base.specs.Stores.{max_file_size};
 
-use super::*;
-use crate::function_tests::gathered;
+use crate::reading::{foreign, gathered};
+use edl_layout::{Extent, FieldEnds, LayoutFault, Layouts, array_size, layout_of};
 use std::alloc::{AllocError, Global};
 use std::process::Abort;
 use std::test::Fail;
 
-/// What a text gives.
-#[derive(Clone, Copy, Debug, PartialEq, Eq)]
-enum Answer {
-    Laid,
-    Unknown(u32, u32),
-    SelfHolding(u32, u32),
-    TooLarge(u32, u32),
-    Other,
-}
-
-/// A foreign type `far`, and one of a standard type's name.
-fn foreign(alloc: Global, lenient: bool) -> Result<ForeignTypes, AllocError> {
-    let mut types = Items::new(alloc);
-    types.push(ForeignType {
-        name: Name::new(alloc, b"far")?,
-        size: 40,
-        align: 16,
-    })?;
-    types.push(ForeignType {
-        name: Name::new(alloc, b"size_t")?,
-        size: 3,
-        align: 1,
-    })?;
-    Ok(ForeignTypes { types, lenient })
-}
+/// A type `far`, and one of a standard type's name.
+const FOREIGN: [(&[u8], u32, u32); 2] = [(b"far", 40, 16), (b"size_t", 3, 1)];
 
 /// The layouts of a text.
-fn layouts(alloc: Global, text: &[u8], lenient: bool) -> Result<Option<Layouts>, AllocError>
+fn layouts(alloc: Global, text: &[u8], lenient: bool) -> Result<Layouts, Fail>
     requires { length text.now ≤ max_file_size }
 {
-    let Some(files) = gathered(alloc, text)? else {
-        return Ok(None);
-    };
-    Ok(layout_of(alloc, &files, &foreign(alloc, lenient)?).ok())
-}
-
-/// What is told of the types of a text.
-fn told(alloc: Global, text: &[u8], lenient: bool) -> Result<Answer, AllocError>
-    requires { length text.now ≤ max_file_size }
-{
-    let Some(files) = gathered(alloc, text)? else {
-        return Ok(Answer::Other);
-    };
-    Ok(match layout_of(alloc, &files, &foreign(alloc, lenient)?) {
-        Ok(_) => Answer::Laid,
-        Err(LayoutFault::Unknown(at)) => Answer::Unknown(at.line, at.column),
-        Err(LayoutFault::SelfHolding(at)) => Answer::SelfHolding(at.line, at.column),
-        Err(LayoutFault::TooLarge(at)) => Answer::TooLarge(at.line, at.column),
-        Err(LayoutFault::Memory) => Answer::Other,
-    })
+    let files = gathered(alloc, text)?;
+    Ok(layout_of(alloc, &files, &foreign(alloc, &FOREIGN, lenient)?)?)
 }
 
 /// Whether the table has this layout of a name.
@@ -162,9 +121,7 @@ fn layouts_are_those_of_c(rt: HostRuntime) -> Result<(), Fail> {
     ];
     for (text, size, align, offsets) in rows {
         assert!(rt; text.len() < 1000);
-        let Some(table) = layouts(rt.alloc(), text, false)? else {
-            return Err(Fail::new("the text has no layouts"));
-        };
+        let table = layouts(rt.alloc(), text, false)?;
         check_layout(&rt, &table, b"s", size, align, offsets);
     }
     Ok(())
@@ -174,9 +131,7 @@ fn layouts_are_those_of_c(rt: HostRuntime) -> Result<(), Fail> {
 fn names_mean_what_is_declared_first(rt: HostRuntime) -> Result<(), Fail> {
     let text: &[u8] =
         b"enclave { struct s { char a; }; union s { long b; }; struct int8_t { int a; int b; }; struct open { hidden x; }; struct far { short x; }; };";
-    let Some(table) = layouts(rt.alloc(), text, true)? else {
-        return Err(Fail::new("the text has no layouts"));
-    };
+    let table = layouts(rt.alloc(), text, true)?;
     check_layout(&rt, &table, b"s", 1, 1, &[0]);
     check_layout(&rt, &table, b"int8_t", 8, 4, &[0, 4]);
     check_layout(&rt, &table, b"far", 2, 2, &[0]);
@@ -190,83 +145,52 @@ fn names_mean_what_is_declared_first(rt: HostRuntime) -> Result<(), Fail> {
     Ok(())
 }
 
-fn check_told(
-    rt: &impl Abort,
-    alloc: Global,
-    lenient: bool,
-    rows: &[(&[u8], Answer)],
-) -> Result<(), Fail> {
-    for (text, wanted) in rows {
-        assert!(rt; text.len() < 1000);
-        assert_eq!(rt; told(alloc, text, lenient)?, *wanted, "{text:?}");
+/// The code and the column of the fault of a text of one line, where a name that is not declared is foreign, or zeros.
+fn lenient_fault(alloc: Global, text: &[u8]) -> Result<(u8, u32), Fail>
+    requires { length text.now ≤ max_file_size }
+{
+    let files = gathered(alloc, text)?;
+    match layout_of(alloc, &files, &foreign(alloc, &FOREIGN, true)?) {
+        Err(LayoutFault::Unknown(at) | LayoutFault::SelfHolding(at) | LayoutFault::TooLarge(at)) =>
+            { Ok((at.code, at.column)) }
+        Err(LayoutFault::Memory) => Err(Fail::new("out of memory")),
+        Ok(_) => Ok((0, 0)),
     }
-    Ok(())
 }
 
 #[test]
-fn faults_have_places(rt: HostRuntime) -> Result<(), Fail> {
-    check_told(
-        &rt,
-        rt.alloc(),
-        false,
-        &[
-            (
-                b"enclave { struct s { struct t x; }; };",
-                Answer::Unknown(1, 29),
-            ),
-            (b"enclave { struct s { t x; }; };", Answer::Unknown(1, 22)),
-            (
-                b"enclave { struct s { void x; }; };",
-                Answer::Unknown(1, 22),
-            ),
-            (b"enclave { struct s { void *x; }; };", Answer::Laid),
-            (
-                b"enclave { struct s { enum e x; }; struct e { }; };",
-                Answer::Unknown(1, 27),
-            ),
-            (
-                b"enclave { struct s { struct t x; struct s y; }; };",
-                Answer::SelfHolding(1, 18),
-            ),
-            (b"enclave { struct s { struct s *x; }; };", Answer::Laid),
-            (
-                b"enclave { struct a { struct b x; }; struct b { union c x[2]; }; union c { struct b x; }; };",
-                Answer::SelfHolding(1, 44),
-            ),
-            (
-                b"enclave { struct s { char a[2147483648]; }; };",
-                Answer::TooLarge(1, 18),
-            ),
-            (
-                b"enclave { struct s { struct t *p; char a[2147483647]; }; };",
-                Answer::TooLarge(1, 18),
-            ),
-            (
-                b"enclave { struct s { char a[18446744073709551615][18446744073709551615]; }; };",
-                Answer::TooLarge(1, 18),
-            ),
-            (
-                b"enclave { struct s { struct t a[65536]; }; struct t { char a[65536]; }; };",
-                Answer::TooLarge(1, 18),
-            ),
-            (
-                b"enclave { enum { A = 2147483648 }; };",
-                Answer::TooLarge(1, 18),
-            ),
-        ],
-    )?;
-    check_told(
-        &rt,
-        rt.alloc(),
-        true,
-        &[
-            (b"enclave { struct s { t x; }; };", Answer::Laid),
-            (
-                b"enclave { struct s { struct t x; }; };",
-                Answer::Unknown(1, 29),
-            ),
-        ],
-    )
+fn unknown_sizes_are_no_fault(rt: HostRuntime) -> Result<(), Fail> {
+    let rows: [(&[u8], (u8, u32)); 7] = [
+        (b"enclave { struct s { t x; }; };", (0, 0)),
+        (b"enclave { struct s { struct t x; }; };", (12, 29)),
+        (
+            b"enclave { trusted { public opaque f(opaque x); }; };",
+            (0, 0),
+        ),
+        (
+            b"enclave { trusted { public void f(struct opaque x); }; };",
+            (12, 42),
+        ),
+        // An element counts as one byte.
+        (
+            b"enclave { trusted { public void f(opaque x[2147483647]); }; };",
+            (0, 0),
+        ),
+        (
+            b"enclave { trusted { public void f(opaque x[2147483648]); }; };",
+            (14, 42),
+        ),
+        // A frame with such a type is never too large.
+        (
+            b"enclave { struct s { char a[1025]; }; trusted { void f(struct s x, opaque y); }; };",
+            (0, 0),
+        ),
+    ];
+    for (text, wanted) in rows {
+        assert!(rt; text.len() < 1000);
+        assert_eq!(rt; lenient_fault(rt.alloc(), text)?, wanted, "{text:?}");
+    }
+    Ok(())
 }
 
 /// A thousand structures of which each holds the one before, in this order or the other way round.
@@ -286,7 +210,61 @@ fn a_chain_is_laid_out_in_either_order(rt: HostRuntime) -> Result<(), Fail> {
     for upwards in [true, false] {
         let text = chain(rt.alloc(), upwards)?;
         assert!(rt; text.len() < 1_000_000);
-        assert_eq!(rt; told(rt.alloc(), text.as_bytes(), false)?, Answer::Laid);
+        let table = layouts(rt.alloc(), text.as_bytes(), false)?;
+        assert_eq!(rt; table.size(b"a1000"), Some(1));
     }
     Ok(())
+}
+
+#[test]
+fn fields_one_behind_the_other(rt: HostRuntime) {
+    const CHAR: Extent = Extent { size: 1, align: 1 };
+    const SHORT: Extent = Extent { size: 2, align: 2 };
+    const INT: Extent = Extent { size: 4, align: 4 };
+    let mut ends = FieldEnds::new();
+    for (field, offset, size) in [
+        (CHAR, 0, 1),
+        (INT, 4, 8),
+        (SHORT, 8, 12),
+        (CHAR, 10, 12),
+        (Extent::ADDRESS, 16, 24),
+        (CHAR, 24, 32),
+        (Extent { size: 0, align: 1 }, 25, 32),
+        (Extent { size: 4, align: 16 }, 32, 48),
+    ] {
+        assert_eq!(rt; ends.push(field), offset, "the offset {offset}");
+        assert_eq!(rt; ends.size(), size, "the size {size}");
+    }
+    let mut last = FieldEnds {
+        end: u64::MAX - 2,
+        align: 1,
+    };
+    assert_eq!(rt; (last.push(INT), last.size()), (u64::MAX, u64::MAX));
+}
+
+#[test]
+fn sizes_of_arrays_do_not_wrap(rt: HostRuntime) {
+    const MOST: Option<u64> = Some(u64::MAX);
+    let rows: [(u32, &[Option<u64>], u64); 8] = [
+        (
+            1,
+            &[MOST, MOST, MOST, MOST, MOST, MOST, MOST, MOST],
+            u64::MAX,
+        ),
+        (0, &[MOST, MOST, MOST, MOST, MOST, MOST, MOST, MOST], 0),
+        (
+            u32::MAX,
+            &[MOST, MOST, MOST, Some(0), MOST, MOST, MOST, MOST],
+            0,
+        ),
+        (3, &[], 3),
+        (3, &[Some(5), None], 0),
+        (8, &[Some(1 << 28)], 1 << 31),
+        // 2 ^ 64 + 8
+        (8, &[Some((1 << 61) + 1)], u64::MAX),
+        (2, &[Some(3), Some(5)], 30),
+    ];
+    for (size, dims, wanted) in rows {
+        assert_eq!(rt; array_size(size, dims), wanted);
+    }
 }

@@ -1,0 +1,13 @@
+//! Tables of cases over the public calls of the layers that read EDL files: tokens, trees, layouts and interfaces.
+#![tactic(auto)]
+
+#[cfg(test)]
+mod interfaces;
+#[cfg(test)]
+mod layouts;
+#[cfg(test)]
+mod lexing;
+#[cfg(test)]
+mod parsing;
+#[cfg(test)]
+mod reading;
