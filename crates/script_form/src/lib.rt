@@ -124,6 +124,3 @@ pub fn read_script(
 {
     script::read(alloc, bytes, interface)
 }
-
-#[cfg(test)]
-mod tests;
