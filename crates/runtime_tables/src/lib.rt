@@ -1,2 +1,19 @@
 //! Tables of cases over the public calls of the runtime's layers.
 #![tactic(auto)]
+
+#[cfg(test)]
+mod arenas;
+#[cfg(test)]
+mod bytes;
+#[cfg(test)]
+mod copies;
+#[cfg(test)]
+mod ports;
+#[cfg(test)]
+mod ranges;
+#[cfg(test)]
+mod reports;
+#[cfg(test)]
+mod stores;
+#[cfg(test)]
+mod values;

@@ -218,6 +218,3 @@ fn enter(log: &mut Vec<Step>, step: Step)
         Err(_) => unreachable!(),
     }
 }
-
-#[cfg(test)]
-mod tests;

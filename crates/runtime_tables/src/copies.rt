@@ -1,10 +1,12 @@
-use super::*;
-use enclave_memory::{Arena, Block};
-use sgx_base::{HOST_START, divisible, mapped};
+//! Copies in and back, at the borders of lengths, units and limits.
+
+use call_copy::{CopyStop, Shape, copy_in, copy_out, put_range};
+use enclave_memory::Arena;
+use sgx_base::{HOST_START, Passing, Status, divisible, mapped};
 use std::alloc::{AllocError, Global};
 use std::process::Abort;
 use std::test::Fail;
-use word_port::{PlainWords, Side, Step, WordPort};
+use word_port::{PlainWords, RunFull, Side, Step, WordPort};
 
 const NO_ROOM: Result<&[u8], CopyStop> = Err(CopyStop::Refused(Status::OUT_OF_MEMORY));
 

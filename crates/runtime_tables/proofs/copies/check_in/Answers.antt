@@ -1,6 +1,6 @@
 use Rattle.std.proofs.Common.{length}
 use Rattle.enclave_memory.proofs.Blocks.{pushed_block}
-use Rattle.call_copy.proofs.tests.check_in.Goals as goal
+use Rattle.runtime_tables.proofs.copies.check_in.Goals as goal
 
 pub bytes-requires : goal.bytes-requires
 bytes-requires g c =

@@ -1,6 +1,6 @@
 use Rattle.std.proofs.Common.{length}
 use Rattle.enclave_memory.proofs.Blocks.{pushed_block}
-use Rattle.call_copy.proofs.tests.put_back.Goals as goal
+use Rattle.runtime_tables.proofs.copies.put_back.Goals as goal
 
 pub copy_out-requires-clause-live : goal.copy_out-requires-clause-live
 copy_out-requires-clause-live g c =

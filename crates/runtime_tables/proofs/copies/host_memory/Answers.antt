@@ -1,6 +1,6 @@
 use Rattle.std.proofs.Common.{ℕ, arith}
 use Rattle.std.proofs.lemmas.List.{get_or-replicate}
-use Rattle.call_copy.proofs.tests.host_memory.Goals as goal
+use Rattle.runtime_tables.proofs.copies.host_memory.Goals as goal
 
 pub new-requires-clause-bytes : goal.new-requires-clause-bytes
 new-requires-clause-bytes g c = λ k h.

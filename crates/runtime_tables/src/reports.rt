@@ -1,6 +1,8 @@
-use super::*;
+//! Records of each kind, class and outcome, with their texts.
+
+use call_report::{CallKind, CallRecord, Records, Way, report};
 use edl_interface::{Amount, Class, Function, Interface, Param, Plain};
-use sgx_base::{Name, Passing};
+use sgx_base::{Name, Passing, Status};
 use sqlite_items::Items;
 use std::alloc::{AllocError, Global};
 use std::process::Abort;

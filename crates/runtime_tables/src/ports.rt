@@ -1,9 +1,12 @@
+//! Steps on plain words, with races between them.
+
 ghost use Rattle.std.specs.Prelude.{◌<◌, ◌≤◌, All};
 ghost use Rattle.word_port.specs.Plain.{AreInOrder};
 
-use super::*;
+use std::alloc::{AllocError, Global};
 use std::process::Abort;
 use std::test::Fail;
+use word_port::{Kind, PlainWords, Race, Side, Step, WordPort};
 
 /// Three host bytes and a cell.
 fn open(alloc: Global, races: &[Race], limit: u32) -> Result<PlainWords, AllocError>
