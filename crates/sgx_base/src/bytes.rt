@@ -50,25 +50,3 @@ pub fn divisible(n: u64, unit: u64) -> bool
 {
     n.is_multiple_of(unit)
 }
-
-#[cfg(test)]
-mod tests {
-    use super::*;
-
-    #[test]
-    fn bytes_and_sizes(rt: HostRuntime) {
-        assert_eq!(rt; read_little_endian(&[0x34, 0x12]), 0x1234);
-        assert_eq!(rt;
-            read_little_endian(&little_endian_bytes(u64::MAX - 1)),
-            u64::MAX - 1
-        );
-        assert_eq!(rt; extended(1, true, 0xff), u64::MAX);
-        assert_eq!(rt; extended(1, false, 0xff), 0xff);
-        assert_eq!(rt; extended(8, true, u64::MAX), u64::MAX);
-        assert_eq!(rt; rounded(17), 32);
-        assert_eq!(rt; rounded(u32::MAX), 0x1_0000_0000);
-        assert!(rt; divisible(12, 4));
-        assert!(rt; !divisible(3, 0));
-        assert!(rt; divisible(0, 0));
-    }
-}

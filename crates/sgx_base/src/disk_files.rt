@@ -89,20 +89,3 @@ impl<R: rt::Files> Files for DiskFiles<R> {
         }
     }
 }
-
-#[cfg(test)]
-mod tests {
-    use super::*;
-    use std::test::Fail;
-
-    #[test]
-    fn a_file_is_written_and_read_back(rt: HostRuntime) -> Result<(), Fail> {
-        let mut files = DiskFiles::new(rt.clone()?);
-        files.write(rt.alloc(), "disk_files_test.tmp", b"one".as_slice())?;
-        let found = files.read(rt.alloc(), "disk_files_test.tmp")?;
-        assert!(rt; found.is_some_and(|bytes| bytes.as_slice() == b"one".as_slice()));
-        fs::remove_file(&rt, "disk_files_test.tmp")?;
-        assert!(rt; files.read(rt.alloc(), "disk_files_test.tmp")?.is_none());
-        Ok(())
-    }
-}

@@ -186,35 +186,3 @@ impl Files for MemFiles {
         }
     }
 }
-
-#[cfg(test)]
-mod tests {
-    use super::*;
-    use std::test::Fail;
-
-    #[test]
-    fn the_second_call_fails(rt: HostRuntime) -> Result<(), Fail> {
-        let mut files = MemFiles::new(rt.alloc(), [2].as_slice())?;
-        files.put("a.edl", b"one".as_slice())?;
-        assert_eq!(rt; files.get("a.edl"), Some(b"one".as_slice()));
-        let found = files.read(rt.alloc(), "a.edl")?;
-        assert!(rt; found.is_some_and(|bytes| bytes.as_slice() == b"one".as_slice()));
-        assert!(rt;
-            files
-                .read(rt.alloc(), "a.edl")
-                .is_err_and(|fault| fault == FileFault::Failed)
-        );
-        assert!(rt; files.read(rt.alloc(), "b.edl")?.is_none());
-        Ok(())
-    }
-
-    #[test]
-    fn a_write_is_read_back(rt: HostRuntime) -> Result<(), Fail> {
-        let mut files = MemFiles::new(rt.alloc(), [].as_slice())?;
-        files.write(rt.alloc(), "a.edl", b"one".as_slice())?;
-        files.write(rt.alloc(), "a.edl", b"two".as_slice())?;
-        let found = files.read(rt.alloc(), "a.edl")?;
-        assert!(rt; found.is_some_and(|bytes| bytes.as_slice() == b"two".as_slice()));
-        Ok(())
-    }
-}

@@ -79,22 +79,3 @@ impl Sink for MemSink {
         }
     }
 }
-
-#[cfg(test)]
-mod tests {
-    use super::*;
-    use std::test::Fail;
-
-    #[test]
-    fn the_second_write_fails(rt: HostRuntime) -> Result<(), Fail> {
-        let mut sink = MemSink::new(rt.alloc(), [2].as_slice())?;
-        sink.write(b"one".as_slice())?;
-        assert!(rt;
-            sink.write(b"two".as_slice())
-                .is_err_and(|fault| fault == SinkFault::Failed)
-        );
-        sink.write(b"three".as_slice())?;
-        assert_eq!(rt; sink.written(), b"onethree".as_slice());
-        Ok(())
-    }
-}

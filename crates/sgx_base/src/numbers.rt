@@ -75,33 +75,3 @@ fn value_of_digit(byte: u8) -> u8
         _ => 36,
     }
 }
-
-#[cfg(test)]
-mod tests {
-    use super::*;
-
-    #[test]
-    fn numbers_are_read(rt: HostRuntime) {
-        assert_eq!(rt; read_number(b"0"), Some(0));
-        assert_eq!(rt; read_number(b"007"), Some(7));
-        assert_eq!(rt; read_number(b"0x1F"), Some(31));
-        assert_eq!(rt; read_number(b"0x1f"), Some(31));
-        assert_eq!(rt; read_number(b"18446744073709551615"), Some(u64::MAX));
-        assert_eq!(rt; read_number(b"0xFFFFFFFFFFFFFFFF"), Some(u64::MAX));
-    }
-
-    #[test]
-    fn other_texts_are_not(rt: HostRuntime) {
-        for text in [
-            b"".as_slice(),
-            b"0x",
-            b"0xg",
-            b"1x",
-            b"+1",
-            b"18446744073709551616",
-            b"0x10000000000000000",
-        ] {
-            assert_eq!(rt; read_number(text), None);
-        }
-    }
-}

@@ -65,16 +65,3 @@ impl<R: Print> Sink for StdSink<R> {
         }
     }
 }
-
-#[cfg(test)]
-mod tests {
-    use super::*;
-    use std::test::Fail;
-
-    #[test]
-    fn a_piece_is_written(rt: HostRuntime) -> Result<(), Fail> {
-        let mut sink = StdSink::new(rt.clone()?);
-        sink.write(b"written by a test\n".as_slice())?;
-        Ok(())
-    }
-}

@@ -36,16 +36,3 @@ fn is_zero(unit: &[u8]) -> bool
 {
     unit.iter().all(|byte| *byte == 0)
 }
-
-#[cfg(test)]
-mod tests {
-    use super::*;
-
-    #[test]
-    fn ends_of_strings(rt: HostRuntime) {
-        assert_eq!(rt; terminated_length(b"ab\0\0", 1), Some(3));
-        assert_eq!(rt; terminated_length(b"ab", 1), None);
-        assert_eq!(rt; terminated_length(&[1, 0, 0, 0, 0, 0, 0, 0, 5], 4), Some(8));
-        assert_eq!(rt; terminated_length(&[1, 0, 0, 0, 0, 0, 0], 4), None);
-    }
-}
