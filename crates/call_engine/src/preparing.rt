@@ -6,6 +6,7 @@ ghost use Rattle.call_script.specs.PlainScript.{IsPlainScript};
 ghost use Rattle.script_form.specs.Form.{script_form};
 ghost use Rattle.edl_interface.specs.Sound.{IsSound};
 ghost use Rattle.call_machine.specs.Plain.{IsPlainInterface, IsPlainMachine};
+ghost use Rattle.call_machine.specs.Sound.{IsSoundMachine};
 ghost use Rattle.attr_rules.specs.ForRun.{AreForRun};
 ghost use Rattle.call_engine.specs.RootFile.{IsRead, IsMisread, IsTaken, IsRefused, no_foreign};
 ghost use Rattle.call_engine.specs.Prepared.{shown, Prepares, GivesRoot, HasCause, HasFileCause, IsEdlFault, IsMachineOf, IsMachineFault, IsScriptFault, AreKept};
@@ -178,6 +179,7 @@ pub fn prepare<F: Files>(
     _racing: bool,
 ) -> Result<Machine, PrepareFault>
     ensures plain { IfOk result (λ m. IsPlainMachine m) }
+    ensures sound { IfOk result (λ m. IsSoundMachine m) }
     ensures ok { IfOk result (λ m. IfSome (F.contents files.old) (λ store. Prepares store edl.now script.now (Ok m))) }
     ensures err { IfErr result (λ fault. HasCause edl.now script.now (shown (F.contents files.old) (F.read_faults files.old) (F.misses files.old)) (shown (F.contents files.new) (F.read_faults files.new) (F.misses files.new)) fault) }
     ensures kept { F.contents files.new ≡ F.contents files.old }

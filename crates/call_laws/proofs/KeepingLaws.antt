@@ -24,7 +24,8 @@ use Rattle.call_machine.specs.Context.{Context, context_in_ecall}
 use Rattle.call_machine.specs.Ecall.{Ocalls, OcallOutcome, answer_of, Finished, Answered, after_records, interpret, actions_of}
 use Rattle.call_laws.specs.Copying.{AreCopiedIn}
 use Rattle.call_laws.specs.Answering.{IsAnsweredRun}
-use Rattle.call_laws.specs.Lengths.{block_length, KeepLengths, FitPasses, FitArguments, AreSoundActions, IsSoundBody, OcallsKeepLengths}
+use Rattle.call_machine.specs.Sound.{FitPasses, AreSoundActions, IsSoundBody}
+use Rattle.call_laws.proofs.Lengths.{block_length, KeepLengths, FitArguments, OcallsKeepLengths}
 use Rattle.call_laws.proofs.RunParts.{IsTwoRuns, two_runs, ret_run, IsMappedRun, mapped_run}
 
 pub keep_same : (blocks : List (Option (List ℕ))) → KeepLengths blocks blocks

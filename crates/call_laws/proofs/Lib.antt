@@ -2,11 +2,11 @@ pub mod BackLaws
 pub mod CopyingLaws
 pub mod EntryLaws
 pub mod KeepingLaws
+pub mod Lengths
 pub mod LoadsAlone
 pub mod OcallLaws
-pub mod PlaceLaws
+pub mod QuietBodies
 pub mod RunParts
 pub mod TransferLaws
 pub mod UndisturbedLaws
 pub mod WithinLaws
-pub mod PlainBodies

@@ -25,7 +25,7 @@ use Rattle.call_machine.specs.Context.{Context}
 use Rattle.call_machine.specs.Result.{is_success}
 use Rattle.call_machine.specs.Ecall.{OcallOutcome}
 use Rattle.call_machine.specs.Ocall.{Handlers, HostSide, OcallDone, ocall_rows, ocall_frame, host_run, handler_context, no_reply, answer_loads, unrefused_ocall, ocall_or_refusal, ocall_outcome, ocall_by}
-use Rattle.call_laws.specs.Lengths.{block_length, KeepLengths, FitArguments, OcallsKeepLengths}
+use Rattle.call_laws.proofs.Lengths.{block_length, KeepLengths, FitArguments, OcallsKeepLengths}
 use Rattle.call_laws.specs.Transfers.{loads_of}
 use Rattle.call_laws.proofs.RunParts.{IsTwoRuns, two_runs, ret_run, IsMappedRun, mapped_run, IsPlacedRun, placed_run, IsAllowedRun, allowed_run}
 use Rattle.call_laws.proofs.TransferLaws.{loads_run}

@@ -1,5 +1,5 @@
 -- Bodies that give the sum of a block's bytes, or 0, ask for nothing.
-use Rattle.std.proofs.Common.{ℕ, ◌≡◌, ◌⊎◌, inl, inr, List, Option}
+use Rattle.std.proofs.Common.{ℕ, inl, inr, List, Option}
 use Rattle.body_vm.specs.declared.Action.{Action}
 use Rattle.body_vm.specs.Execution.{execution}
 use Rattle.call_machine.specs.declared.Machine.{Machine}

@@ -14,7 +14,7 @@ use Rattle.call_machine.specs.declared.Machine.{Machine}
 use Rattle.call_machine.specs.Context.{Context}
 use Rattle.call_machine.specs.Ecall.{Ocalls, entered}
 use Rattle.call_laws.specs.Transfers.{loads_of}
-use Rattle.call_laws.specs.Lengths.{IsSoundBody}
+use Rattle.call_machine.specs.Sound.{IsSoundBody}
 use Rattle.call_laws.specs.Undisturbed.{AreLegal, words_at_end, IsQuiet}
 
 -- `public uint32_t swap_in([in, out] uint8_t p[2]);`: the return at 0, the address at 8

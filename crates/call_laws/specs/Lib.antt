@@ -1,7 +1,6 @@
 pub mod Answering
 pub mod Copying
 pub mod Examples
-pub mod Lengths
 pub mod Refusing
 pub mod Transfers
 pub mod Undisturbed

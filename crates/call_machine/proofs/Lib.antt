@@ -14,4 +14,5 @@ pub mod PlainEntry
 pub mod RefusedLoads
 pub mod Results
 pub mod RunLaws
+pub mod SoundMachines
 pub mod StringLaws

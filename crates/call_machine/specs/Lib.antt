@@ -10,5 +10,6 @@ pub mod Reported
 pub mod Result
 pub mod Run
 pub mod Served
+pub mod Sound
 pub mod Tcs
 pub mod Thread

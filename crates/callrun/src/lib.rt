@@ -131,7 +131,7 @@ fn ending_of(alloc: Global, script: &str, fault: PrepareFault) -> Result<Ending,
 }
 
 /// Runs the script of one name on the EDL file of another.
-#[tactic(auto, using(run_laws::proofs::Runs::plain_report))]
+#[tactic(auto, using(run_laws::proofs::Runs::report_protected))]
 fn run_files<F: Files>(
     alloc: Global,
     files: &mut F,

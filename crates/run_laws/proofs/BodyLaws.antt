@@ -17,6 +17,7 @@ use Rattle.run_laws.specs.Calls.{Call}
 use Rattle.run_laws.specs.Ocalls.{IsOcall}
 use Rattle.run_laws.specs.Bodies.{cell_step, IsAnsweredRequest, IsCarriedOut}
 use Rattle.run_laws.proofs.Triples.{Ensures, ensures_ret, ensures_then, ensures_map}
+use Rattle.run_laws.proofs.FitLaws.{FitOcall, AsksFitting}
 use Rattle.run_laws.proofs.Growth.{IsGrown, carried_grown, ocall_grown}
 use Rattle.run_laws.proofs.Protects.{NoStep, AreProtected, among_left, among_right, among_tail, protected_both, protected_then, none_protected}
 
@@ -58,7 +59,7 @@ pub at_head : (c : Call) (calls : List Call) → Contains (c ∷ calls) c
 at_head c calls = (zero, omega arith, refl)
 
 module _ (m : Machine) (ocalls : Ocalls) (cx : Context)
-    (answers : (before : List Step) (room ordinal : ℕ) (arguments : List Argument) → Ensures before (λ steps out. OcallRan m (record cx { room = room }) ordinal arguments before steps out) (ocalls (record cx { room = room }) ordinal arguments)) where
+    (answers : (before : List Step) (room ordinal : ℕ) (arguments : List Argument) → FitOcall m.interface ordinal arguments → Ensures before (λ steps out. OcallRan m (record cx { room = room }) ordinal arguments before steps out) (ocalls (record cx { room = room }) ordinal arguments)) where
   -- a body that has ended
   ended : (value : ℕ) (blocks : List (Option (List ℕ))) (before : List Step) → BodyRan m cx before [] (returned value blocks) (record { value = value; blocks = blocks; records = [] })
   ended value blocks before = record { calls = []; records_are = refl; asked = []; carried = (refl, refl, refl, refl); are = none_protected m (Contains []) (IsOffHost m) before [] tt }
@@ -115,16 +116,16 @@ module _ (m : Machine) (ocalls : Ocalls) (cx : Context)
       }
 
   -- a body that is carried out
-  pub body_ran : (body : Execution) (before : List Step) → Ensures before (λ steps done. BodyRan m cx before steps body done) (interpret m ocalls cx body)
-  body_ran (returned value blocks) before = ensures_ret before (λ steps done. BodyRan m cx before steps (returned value blocks) done) (record { value = value; blocks = blocks; records = [] }) (ended value blocks before)
-  body_ran (on_cell q next) before =
+  pub body_ran : (body : Execution) → AsksFitting m.interface body → (before : List Step) → Ensures before (λ steps done. BodyRan m cx before steps body done) (interpret m ocalls cx body)
+  body_ran (returned value blocks) fit before = ensures_ret before (λ steps done. BodyRan m cx before steps (returned value blocks) done) (record { value = value; blocks = blocks; records = [] }) (ended value blocks before)
+  body_ran (on_cell q next) fit before =
       ensures_ask before (λ steps done. BodyRan m cx before steps (on_cell q next) done) _ (λ old. interpret m ocalls cx (next old)) (λ old events done h places.
-      after_cell q next old before (steps_of events) done (body_ran (next old) (before ++ cell_step m q old ∷ []) events done h places))
-  body_ran (on_ocall q next) before =
+      after_cell q next old before (steps_of events) done (body_ran (next old) (fit old) (before ++ cell_step m q old ∷ []) events done h places))
+  body_ran (on_ocall q next) fit before =
       let goes_on : OcallOutcome → Interaction Finished = λ out. map_value (after_records out.records) (interpret m ocalls cx (next (answer_of m.interface q out))) in
       ensures_then before (λ steps out. OcallRan m (record cx { room = q.room }) q.ordinal (map (argument_of q.blocks) q.arguments) before steps out)
       (λ steps done. BodyRan m cx before steps (on_ocall q next) done) (ocalls (record cx { room = q.room }) q.ordinal (map (argument_of q.blocks) q.arguments)) goes_on
-      (answers before q.room q.ordinal (map (argument_of q.blocks) q.arguments)) (λ first out p.
+      (answers before q.room q.ordinal (map (argument_of q.blocks) q.arguments) fit.0) (λ first out p.
       ensures_map (before ++ first) (λ more done. BodyRan m cx (before ++ first) more (next (answer_of m.interface q out)) done) (λ more done. BodyRan m cx before (first ++ more) (on_ocall q next) done)
-      (after_records out.records) (interpret m ocalls cx (next (answer_of m.interface q out))) (body_ran (next (answer_of m.interface q out)) (before ++ first))
+      (after_records out.records) (interpret m ocalls cx (next (answer_of m.interface q out))) (body_ran (next (answer_of m.interface q out)) (fit.1 (answer_of m.interface q out)) (before ++ first))
       (λ more done r. after_ocall q next before first more out done p r))

@@ -157,6 +157,7 @@ module _ (m : Machine) (ecalls : Ecalls) (room : ℕ) (entries : EcallsProtect m
         found = found;
         no_room = none;
         no_frame = refl;
+        way_is = refl;
         status_is = refl;
         turn_is = refl;
         last_is = refl;

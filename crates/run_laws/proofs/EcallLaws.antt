@@ -23,11 +23,12 @@ use Rattle.call_report.specs.declared.Way.TheVariants.{Taken}
 use Rattle.call_machine.specs.declared.Machine.{Machine}
 use Rattle.call_machine.specs.Context.{Context, context_in_ecall}
 use Rattle.call_machine.specs.Result.{Outcome}
+use Rattle.call_machine.specs.Sound.{IsSoundBody}
 use Rattle.call_machine.specs.Ecall.{Ocalls, OcallOutcome, Answered, body_of, ecall_record, ecall_outcome, entered, ecall_by}
 use Rattle.call_laws.specs.Transfers.{loads_of}
 use Rattle.call_laws.specs.Answering.{IsAnsweredRun}
 use Rattle.call_laws.specs.Refusing.{IsEnclaveLoad, IsRefusedRun}
-use Rattle.call_laws.specs.Lengths.{IsSoundBody, OcallsKeepLengths}
+use Rattle.call_laws.proofs.Lengths.{OcallsKeepLengths}
 use Rattle.call_laws.specs.Within.{IsInAnswer}
 use Rattle.call_laws.proofs.EntryLaws.{EntryRun, entered_run}
 use Rattle.call_laws.proofs.LoadsAlone.{loads_append, loads_of_alone, copying_alone, refused_alone}
@@ -43,6 +44,7 @@ use Rattle.run_laws.proofs.Protects.{EachFrom, NoStep, each_append, each_weaker,
 use Rattle.run_laws.proofs.InHost.{InHost, refused_in, arguments_in, answer_in}
 use Rattle.run_laws.proofs.Stored.{IsSwap, all_both, answer_swap}
 use Rattle.run_laws.proofs.RefusalLaws.{refusal_other}
+use Rattle.run_laws.proofs.FitLaws.{FitOcall, body_fits}
 use Rattle.run_laws.proofs.BodyLaws.{OcallRan, IsOffHost, BodyRan, body_ran, at_head}
 use Rattle.run_laws.proofs.CallLaws.{IsMadeAt}
 
@@ -62,7 +64,7 @@ all_any [] = tt
 all_any (s ∷ steps) = (tt, all_any steps)
 
 module _ (m : Machine) (ocalls : Ocalls) (cx : Context) (ordinal address : ℕ) (way : Way) (ordinary : way ≢ Taken)
-    (answers : first_row (entry_rows m.interface cx.stack ordinal) ≡ None → (before : List Step) (room o : ℕ) (arguments : List Argument)
+    (answers : first_row (entry_rows m.interface cx.stack ordinal) ≡ None → (before : List Step) (room o : ℕ) (arguments : List Argument) → FitOcall m.interface o arguments
     → Ensures before (λ steps (out : OcallOutcome). OcallRan m (context_in_ecall cx ordinal room) o arguments before steps out) (ocalls (context_in_ecall cx ordinal room) o arguments))
     (sound : IsSoundBody m ordinal) (runnable : (f : Function) → slice_get m.interface.ecalls ordinal ≡ Some f → IsRunnableFunction true f) (keeping : first_row (entry_rows m.interface cx.stack ordinal) ≡ None → OcallsKeepLengths m ocalls) where
   -- a refused entry
@@ -147,7 +149,8 @@ module _ (m : Machine) (ocalls : Ocalls) (cx : Context) (ordinal address : ℕ) 
 
     body_done : HasPlaces (length before) events → BodyRan m inside (before ++ steps_of loading) (steps_of run.running) body run.finished
     body_done places =
-        body_ran m ocalls inside (λ log room o arguments. answers run.may_enter log room o arguments) body (before ++ steps_of loading) run.running run.finished run.body_runs
+        body_ran m ocalls inside (λ log room o arguments fit. answers run.may_enter log room o arguments fit) body
+        (body_fits m ordinal run.function run.frame run.copies run.found sound) (before ++ steps_of loading) run.running run.finished run.body_runs
         (subst (λ n. HasPlaces n run.running) (sym (length-append before (steps_of loading))) (all_places places).0)
 
     stores_inside : All (IsInAnswer run.function run.frame address run.copies.blocks) (steps_of storing)

@@ -18,14 +18,14 @@ use Rattle.call_report.specs.declared.CallKind.TheVariants.{Ecall, Ocall}
 use Rattle.call_report.specs.declared.Way.TheVariants.{Taken}
 use Rattle.call_machine.specs.Acts.{acts_of}
 use Rattle.call_machine.specs.Ecall.{ecall_by}
+use Rattle.call_machine.specs.Sound.{IsSoundBody, IsSoundMachine}
 use Rattle.call_machine.specs.Thread.{thread}
 use Rattle.call_machine.specs.Reported.{beginning, first_thread}
 use Rattle.call_laws.specs.Examples.{small_function, small_events}
-use Rattle.call_laws.specs.Lengths.{IsSoundBody}
 use Rattle.call_laws.specs.Refusing.{IsRefusedRun}
 use Rattle.run_laws.specs.Calls.{Call}
 use Rattle.run_laws.specs.Ecalls.{IsEcall}
-use Rattle.run_laws.specs.Protected.{IsArgumentLoad, IsAnswerStore, IsFrameStore, IsReplyLoad, IsCellStep, IsAccountedFor, IsProtectedCall, IsProtectedRun, IsSoundMachine}
+use Rattle.run_laws.specs.Protected.{IsArgumentLoad, IsAnswerStore, IsFrameStore, IsReplyLoad, IsCellStep, IsAccountedFor, IsProtectedCall, IsProtectedRun}
 use Rattle.run_laws.specs.Examples.{one_call_machine, record_of, one_call_log, one_call_outcome, one_call_end, second_load, stray_store, wrong_refusal}
 use Rattle.run_laws.proofs.CallLaws.{not_taken_first}
 use Rattle.run_laws.proofs.Runs.{run_protected}
@@ -59,7 +59,11 @@ small_runnable = record {
 }
 
 one_call_sound : IsSoundMachine one_call_machine
-one_call_sound = record { ecalls = All-cons (IsRunnableFunction true) small_function [] small_runnable (All-nil (IsRunnableFunction true)); ocalls = All-nil (IsRunnableFunction false); stack = omega arith; bodies = sound_body }
+one_call_sound = record {
+  runnable = record { ecalls = All-cons (IsRunnableFunction true) small_function [] small_runnable (All-nil (IsRunnableFunction true)); ocalls = All-nil (IsRunnableFunction false) };
+  stack = omega arith;
+  bodies = sound_body;
+}
 
 pub one_call_protected : IsProtectedRun one_call_machine (record_of 0 ∷ []) one_call_log
 one_call_protected = run_protected one_call_machine one_call_sound 64 one_call_end one_call_outcome one_call_run

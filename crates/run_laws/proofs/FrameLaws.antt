@@ -82,7 +82,7 @@ addresses_length (b ∷ buffers) structure h =
     addresses_length buffers (with_bytes_at structure b.param.offset (low_bytes 8 b.address)) (subst (λ n. AllByRecursion (HasPointer n) buffers) (sym same) h.1) ∙ same
 
 -- what the buffers hold in all
-abbrev total : List Buffer → ℕ
+abbrev pub total : List Buffer → ℕ
 total buffers = sum_by (λ b. length b.content) buffers
 
 shown_length : (b : Buffer) → length (shown_content b) ≡ length b.content
@@ -105,7 +105,7 @@ one_total p here there content more others true e =
 one_total p here there content more others false e = e
 
 -- it does not depend on where they begin
-same_total : (f : Function) (structure : List ℕ) (here there : ℕ) (params : List Param) (arguments : List Argument)
+pub same_total : (f : Function) (structure : List ℕ) (here there : ℕ) (params : List Param) (arguments : List Argument)
     → total (buffers_from f structure here (zip params arguments)) ≡ total (buffers_from f structure there (zip params arguments))
 same_total f structure here there [] arguments = refl
 same_total f structure here there (p ∷ params) [] = refl

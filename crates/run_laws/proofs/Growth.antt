@@ -167,6 +167,7 @@ module _ (m : Machine) (old new : List Step) (grown : IsGrown old new) where
         | inr (inr (inr (inl a))) ↦ inr (inr (inr (inl (record {
           is_ocall = a.is_ocall;
           is_load = a.is_load;
+          in_host = a.in_host;
           arguments = a.arguments;
           steps = a.steps;
           out = a.out;
@@ -174,6 +175,7 @@ module _ (m : Machine) (old new : List Step) (grown : IsGrown old new) where
           made_it = a.made_it;
           from_turn = a.from_turn;
           to_last = a.to_last;
+          inside = a.inside;
         }))))
         | inr (inr (inr (inr a))) ↦ inr (inr (inr (inr (record {
           is_ecall = a.is_ecall;

@@ -4,6 +4,7 @@ pub mod CallLaws
 pub mod CallerLaws
 pub mod EcallLaws
 pub mod ExampleLaws
+pub mod FitLaws
 pub mod FrameLaws
 pub mod Growth
 pub mod HostStack
@@ -11,6 +12,7 @@ pub mod InHost
 pub mod OcallLaws
 pub mod Protects
 pub mod RefusalLaws
+pub mod ReplyLaws
 pub mod Runs
 pub mod Stored
 pub mod Triples

@@ -43,6 +43,8 @@ use Rattle.run_laws.proofs.Protects.{NoStep, each_append, each_weaker, AreAccoun
 use Rattle.run_laws.proofs.ActLaws.{ProtectsOutcome, elsewhere_then}
 use Rattle.run_laws.proofs.CallLaws.{others_before}
 use Rattle.run_laws.proofs.CallerLaws.{caller_elsewhere}
+use Rattle.run_laws.proofs.FitLaws.{FitBlocks, FitOcall}
+use Rattle.run_laws.proofs.ReplyLaws.{reply_inside}
 use Rattle.run_laws.proofs.BodyLaws.{OcallRan, at_head}
 use Rattle.run_laws.proofs.EcallLaws.{each_between}
 use Rattle.run_laws.proofs.Stored.{IsSwap, all_both, stores_swap, reply_run}
@@ -121,7 +123,7 @@ module _ (m : Machine) (handlers : Handlers) (cx : Context) (ordinal : ℕ) (arg
         are = one_protected m (λ d. d ≡ c) before [] c refl (omega arith, omega (arith, same)) protected tt;
       }
 
-  module _ (f : Function) (found : slice_get m.interface.ocalls ordinal ≡ Some f) (runnable : IsRunnableFunction false f)
+  module _ (f : Function) (found : slice_get m.interface.ocalls ordinal ≡ Some f) (runnable : IsRunnableFunction false f) (fit : FitBlocks f.params arguments)
       (hosts : (frame : ℕ) → IsOnHost m.script.settings.host (handler_context cx ordinal f frame) → (before : List Step) → ProtectsOutcome m (handler_context cx ordinal f frame) before (handlers (handler_context cx ordinal f frame) ordinal f frame)) where
     abbrev inside : ℕ → Context
     inside frame = handler_context cx ordinal f frame
@@ -359,13 +361,17 @@ module _ (m : Machine) (handlers : Handlers) (cx : Context) (ordinal : ℕ) (arg
       reply_accounted =
           let low : ℕ = length before + length (steps_of entering) + length hosting in
           let turn : unwrap_or done.turn (length log) ≡ length before + length (steps_of entering) + length hosting = turn_at in
-          each_weaker (λ place s. (low ≤ place) × (place < length log) × IsEnclaveLoad s) (λ place s. s.side ≡ Enclave → NoStep s ⊎ IsAccountedFor m all_calls log place s)
+          let P : Step → Type 0 = λ s. IsWordIn frame_at (ocall_size f arguments) s.index in
+          let within : AllByRecursion P answering =
+          subst (λ l. AllByRecursion P l) (sym answered.steps_are) (reply_inside f arguments frame_at done.host.status answered.loading done.reply runnable fit answered.replied) in
+          each_weaker (λ place s. (low ≤ place) × (place < length log) × (IsEnclaveLoad s × P s)) (λ place s. s.side ≡ Enclave → NoStep s ⊎ IsAccountedFor m all_calls log place s)
           (λ place s h w. inr (record {
             call = this;
             is_call = at_head this inner;
             how = inr (inr (inr (inl (record {
               is_ocall = refl;
-              is_load = h.2.1;
+              is_load = h.2.0.1;
+              in_host = frame_word m.script.settings.host cx stack f arguments runnable allowed s.index h.2.1;
               arguments = arguments;
               steps = steps_in;
               out = out_is;
@@ -373,9 +379,10 @@ module _ (m : Machine) (handlers : Handlers) (cx : Context) (ordinal : ℕ) (arg
               made_it = told;
               from_turn = subst (λ n. n ≤ place) (sym turn) h.0;
               to_last = h.1;
+              inside = subst (λ a. IsWordIn a (ocall_size f arguments) s.index) (sym answered.frame_is) h.2.1;
             }))));
           })) low answering
-          (each_between IsEnclaveLoad low (length log) low answering (omega arith) (omega (arith, log_length)) answered.alone)
+          (each_between (λ s. IsEnclaveLoad s × P s) low (length log) low answering (omega arith) (omega (arith, log_length)) (all_both IsEnclaveLoad P answering answered.alone within))
 
       all_accesses : AreAccountedFor m NoStep all_calls log (length before) steps_in
       all_accesses =
@@ -422,14 +429,14 @@ module _ (m : Machine) (handlers : Handlers) (cx : Context) (ordinal : ℕ) (arg
   abbrev ResultRan : List Step → List Step → Result OcallDone Status → Type 0
   ResultRan before steps result = OcallRan m cx ordinal arguments before steps (ocall_outcome cx ordinal (length before) (length (before ++ steps)) result)
 
-  module _ (runnable : (f : Function) → slice_get m.interface.ocalls ordinal ≡ Some f → IsRunnableFunction false f)
+  module _ (runnable : (f : Function) → slice_get m.interface.ocalls ordinal ≡ Some f → IsRunnableFunction false f) (fits : FitOcall m.interface ordinal arguments)
       (hosts : (f : Function) → slice_get m.interface.ocalls ordinal ≡ Some f → (frame : ℕ) → IsOnHost m.script.settings.host (handler_context cx ordinal f frame) → (before : List Step)
       → ProtectsOutcome m (handler_context cx ordinal f frame) before (handlers (handler_context cx ordinal f frame) ordinal f frame)) where
     by_rows : (f : Function) → slice_get m.interface.ocalls ordinal ≡ Some f → (row : Option Status) → first_row (ocall_rows cx f arguments) ≡ row → (before : List Step)
         → Ensures before (λ steps result. ResultRan before steps result) (go_on_if_ok {B = OcallDone} (λ allowed. map_value (λ done. Ok done) (unrefused_ocall m handlers cx ordinal arguments f)) (unless_refused row))
     by_rows f found None e before =
-        ensures_map before (λ steps done. HasParts f found (runnable f found) (hosts f found) before steps done) (λ steps result. ResultRan before steps result) (λ done. Ok done) (unrefused_ocall m handlers cx ordinal arguments f)
-        (has_parts f found (runnable f found) (hosts f found) e before) (λ steps done p. made_ran f found (runnable f found) (hosts f found) e before steps done p)
+        ensures_map before (λ steps done. HasParts f found (runnable f found) (fits f found) (hosts f found) before steps done) (λ steps result. ResultRan before steps result) (λ done. Ok done) (unrefused_ocall m handlers cx ordinal arguments f)
+        (has_parts f found (runnable f found) (fits f found) (hosts f found) e before) (λ steps done p. made_ran f found (runnable f found) (fits f found) (hosts f found) e before steps done p)
     by_rows f found (Some status) e before =
         ensures_ret before (λ steps result. ResultRan before steps result) (Err status)
         (refused_ocall before status (Some f) found (λ c cx_is status_is. subst (λ k. first_row (ocall_rows k f arguments) ≡ Some c.made.status) (sym cx_is) (e ∙ ap (λ s. Some s) (sym status_is))))

@@ -1,8 +1,8 @@
 -- Every run is protected, by the number of entries that still fit the call stack.
 use Rattle.std.proofs.Common.{ℕ, zero, suc, ◌+◌, ◌≡◌, ◌<◌, ◌≤◌, ◌⊎◌, inl, inr, nat_le, Bool, true, false, if◌then◌else◌, List, [], ◌∷◌, length, Some, None, slice_get, refl, ap, sym, subst, arith, zero-add}
-use Rattle.std.specs.List.{All, AllByRecursion}
+use Rattle.std.specs.List.{AllByRecursion}
 use Rattle.std.proofs.lemmas.Bool.{leb-false}
-use Rattle.std.proofs.lemmas.List.Elements.{All-nil, All-weaker, recursion_from_All}
+use Rattle.std.proofs.lemmas.List.Elements.{recursion_from_All}
 use Rattle.sgx_base.specs.Rows.{first_row}
 use Rattle.edl_interface.specs.declared.Function.{Function}
 use Rattle.edl_interface.specs.Parameters.{has_frame, return_size}
@@ -16,17 +16,16 @@ use Rattle.enclave_memory.specs.Arguments.{Argument}
 use Rattle.bridge_program.specs.Entry.{entry_rows}
 use Rattle.call_machine.specs.declared.Machine.{Machine}
 use Rattle.call_machine.specs.Context.{Context, context_in_ecall, first_context}
-use Rattle.call_machine.specs.Plain.{IsPlainFunction, IsPlainMachine}
 use Rattle.call_machine.specs.Result.{Outcome}
 use Rattle.call_machine.specs.Ecall.{OcallOutcome}
 use Rattle.call_machine.specs.Ocall.{Handlers, handler_context, ocall_by}
 use Rattle.call_machine.specs.Served.{handler_acts}
+use Rattle.call_machine.specs.Sound.{IsSoundMachine}
 use Rattle.call_machine.specs.Thread.{host_actor, handlers_by, no_ocalls, ecalls_to, thread}
 use Rattle.call_machine.specs.Reported.{IsReportOf, step_limit, beginning, acts_at, first_thread}
 use Rattle.call_laws.proofs.OcallLaws.{ocalls_keep}
-use Rattle.call_laws.proofs.PlainBodies.{plain_bodies}
 use Rattle.run_laws.specs.Calls.{IsMadeIn}
-use Rattle.run_laws.specs.Protected.{IsAccountedFor, IsProtectedRun, IsSoundMachine}
+use Rattle.run_laws.specs.Protected.{IsAccountedFor, IsProtectedRun}
 use Rattle.run_laws.specs.Reports.{IsProtectedReport}
 use Rattle.run_laws.proofs.Triples.{Ensures}
 use Rattle.run_laws.proofs.HostStack.{IsOnHost}
@@ -35,6 +34,7 @@ use Rattle.run_laws.proofs.Protects.{NoStep, Protects, each_at}
 use Rattle.run_laws.proofs.ActLaws.{ProtectsOutcome, acts_protected}
 use Rattle.run_laws.proofs.CallLaws.{EcallsProtect, calls_protected, raw_protected}
 use Rattle.run_laws.proofs.CallerLaws.{host_other}
+use Rattle.run_laws.proofs.FitLaws.{FitOcall}
 use Rattle.run_laws.proofs.BodyLaws.{OcallRan}
 use Rattle.run_laws.proofs.EcallLaws.{ecall_protected}
 use Rattle.run_laws.proofs.OcallLaws.{ocall_ran}
@@ -64,25 +64,26 @@ module _ (m : Machine) (sound : IsSoundMachine m) where
       (calls_protected m (ecalls_to m depth) depth entries cx deep on frame) (raw_protected m (ecalls_to m depth) depth entries cx deep on) (handler_acts m ordinal) before
 
   runnable_ecall : (ordinal : ℕ) (f : Function) → slice_get m.interface.ecalls ordinal ≡ Some f → IsRunnableFunction true f
-  runnable_ecall ordinal f found = function_at (IsRunnableFunction true) m.interface.ecalls (recursion_from_All (IsRunnableFunction true) m.interface.ecalls sound.ecalls) ordinal f found
+  runnable_ecall ordinal f found = function_at (IsRunnableFunction true) m.interface.ecalls (recursion_from_All (IsRunnableFunction true) m.interface.ecalls sound.runnable.ecalls) ordinal f found
 
   -- entries, by how many more fit
   pub entries_protected : (depth : ℕ) → EcallsProtect m depth (ecalls_to m depth)
   entries_protected zero before cx ordinal address way ordinary deep on =
       let full : first_row (entry_rows m.interface cx.stack ordinal) ≡ None → ⊥ = λ may. let place : length cx.stack < 16 = has_place m cx ordinal may in omega (arith, place, deep) in
-      ecall_protected m no_ocalls cx ordinal address way ordinary (λ may log room o arguments. absurd (full may)) (sound.bodies ordinal) (runnable_ecall ordinal) (λ may. absurd (full may)) before
+      ecall_protected m no_ocalls cx ordinal address way ordinary (λ may log room o arguments fit. absurd (full may)) (sound.bodies ordinal) (runnable_ecall ordinal) (λ may. absurd (full may)) before
   entries_protected (suc depth) before cx ordinal address way ordinary deep on =
       let handlers : Handlers = handlers_by m (ecalls_to m depth) in
-      let answers : (log : List Step) (room o : ℕ) (arguments : List Argument)
+      let answers : (log : List Step) (room o : ℕ) (arguments : List Argument) → FitOcall m.interface o arguments
       → Ensures log (λ steps (out : OcallOutcome). OcallRan m (context_in_ecall cx ordinal room) o arguments log steps out) (ocall_by m handlers (context_in_ecall cx ordinal room) o arguments) =
-      λ log room o arguments.
+      λ log room o arguments fit.
       let inside : Context = context_in_ecall cx ordinal room in
       ocall_ran m handlers inside o arguments on
-      (λ f found. function_at (IsRunnableFunction false) m.interface.ocalls (recursion_from_All (IsRunnableFunction false) m.interface.ocalls sound.ocalls) o f found)
+      (λ f found. function_at (IsRunnableFunction false) m.interface.ocalls (recursion_from_All (IsRunnableFunction false) m.interface.ocalls sound.runnable.ocalls) o f found)
+      fit
       (λ f found frame handler_on more.
       let stack : length (handler_context inside o f frame).stack ≡ suc (length cx.stack) = handler_depth (has_frame f) _ frame in
       handler_protected depth (entries_protected depth) (handler_context inside o f frame) (omega (arith, stack, deep)) handler_on o f frame more) log in
-      ecall_protected m (ocall_by m handlers) cx ordinal address way ordinary (λ may log room o arguments. answers log room o arguments) (sound.bodies ordinal) (runnable_ecall ordinal) (λ may. ocalls_keep m handlers) before
+      ecall_protected m (ocall_by m handlers) cx ordinal address way ordinary (λ may log room o arguments fit. answers log room o arguments fit) (sound.bodies ordinal) (runnable_ecall ordinal) (λ may. ocalls_keep m handlers) before
 
   thread_protected : (before : List Step) → ProtectsOutcome m (first_context m.script.settings 0) before (first_thread m)
   unfolding thread
@@ -111,15 +112,6 @@ module _ (m : Machine) (sound : IsSoundMachine m) where
       } in
       subst (λ l. IsProtectedRun m outcome.records l) (sym log_is) told
 
--- a machine that the engine takes is sound
-pub plain_sound : (m : Machine) → IsPlainMachine m → IsSoundMachine m
-plain_sound m plain = record {
-  ecalls = All-weaker IsPlainFunction (IsRunnableFunction true) (λ f h. h.runnable) m.interface.ecalls plain.interface.functions;
-  ocalls = subst (λ fs. All (IsRunnableFunction false) fs) (sym plain.interface.no_ocalls) (All-nil (IsRunnableFunction false));
-  stack = plain.script.settings.stack_fits;
-  bodies = λ ordinal. (plain_bodies m ordinal plain).0;
-}
-
 -- the report of a machine
 pub report_protected : (m : Machine) (text : List ℕ) → IsSoundMachine m → IsReportOf m text → IsProtectedReport m text
 unfolding IsProtectedReport
@@ -130,7 +122,3 @@ report_protected m text sound r = record {
   legal = r.legal;
   protected = run_protected m sound step_limit r.after r.outcome r.run;
 }
-
--- the report of a machine that the engine takes
-pub plain_report : (m : Machine) (text : List ℕ) → IsPlainMachine m → IsReportOf m text → IsProtectedReport m text
-plain_report m text plain r = report_protected m text (plain_sound m plain) r

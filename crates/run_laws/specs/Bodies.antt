@@ -1,4 +1,4 @@
--- A body carried out on the machine: the execution that it is as a direct call on the copies, request by request.
+-- A body carried out on the machine: the execution of the direct call on its copies, request by request.
 use Rattle.std.specs.Prelude.{ℕ, ◌≡◌, ◌+◌, List, [], ◌∷◌, ◌++◌, length, map, Option, Contains}
 use Rattle.word_port.specs.declared.Step.{Step}
 use Rattle.word_port.specs.declared.Side.TheVariants.{Enclave}

@@ -8,6 +8,7 @@ use Rattle.edl_interface.specs.Parameters.{marshalled, return_size}
 use Rattle.word_port.specs.declared.Step.{Step}
 use Rattle.word_port.specs.Events.{Event, steps_of}
 use Rattle.bridge_program.specs.Entry.{entry_rows}
+use Rattle.call_report.specs.declared.Way.TheVariants.{Ordinary}
 use Rattle.ocall_frames.specs.Stack.{frame_below}
 use Rattle.call_machine.specs.declared.Machine.{Machine}
 use Rattle.call_machine.specs.Context.{context_in_ecall}
@@ -27,6 +28,7 @@ pub record IsNotEntered (m : Machine) (c : Call) : Type 0 where
   pub found : slice_get m.interface.ecalls c.made.ordinal ≡ Some function
   pub no_room : frame_below c.context.base c.context.top function.frame_size ≡ None
   pub no_frame : c.made.frame ≡ 0
+  pub way_is : c.made.way ≡ Ordinary
   pub status_is : c.made.status ≡ UNEXPECTED
   pub turn_is : c.made.turn ≡ c.made.first
   pub last_is : c.made.last ≡ c.made.first

@@ -1,11 +1,10 @@
 -- What a run keeps, whatever the host writes and whenever it writes it.
-use Rattle.std.specs.Prelude.{ℕ, true, false, ◌≡◌, ◌≢◌, ◌≤◌, ◌<◌, ◌+◌, ◌⊎◌, List, ◌++◌, length, map, All, Contains, Some, slice_get}
+use Rattle.std.specs.Prelude.{ℕ, ◌≡◌, ◌≢◌, ◌≤◌, ◌<◌, ◌+◌, ◌⊎◌, List, ◌++◌, length, map, All, Contains, Some, slice_get}
 use Rattle.word_port.specs.declared.Step.{Step}
 use Rattle.word_port.specs.declared.Side.TheVariants.{Enclave}
 use Rattle.word_port.specs.declared.Kind.TheVariants.{Load, Swap}
 use Rattle.word_port.specs.Events.{steps_of}
 use Rattle.edl_interface.specs.declared.Function.{Function}
-use Rattle.edl_interface.specs.Runnable.{IsRunnableFunction}
 use Rattle.enclave_memory.specs.Arguments.{Argument}
 use Rattle.ocall_frames.specs.Frames.{ocall_size}
 use Rattle.call_report.specs.declared.CallKind.TheVariants.{Ecall, Ocall}
@@ -15,7 +14,6 @@ use Rattle.call_machine.specs.declared.Machine.{Machine}
 use Rattle.call_machine.specs.Context.{Context, depth_of, first_context}
 use Rattle.call_machine.specs.Ecall.{OcallOutcome}
 use Rattle.call_machine.specs.Ocall.{handler_context}
-use Rattle.call_laws.specs.Lengths.{IsSoundBody}
 use Rattle.call_laws.specs.Transfers.{loads_of}
 use Rattle.call_laws.specs.Within.{IsWordIn, IsInAnswer}
 use Rattle.run_laws.specs.Calls.{Call, IsMadeIn}
@@ -55,7 +53,7 @@ pub record IsProtectedCall (m : Machine) (calls : List Call) (log : List Step) (
   pub taken : c.made.kind ≡ Ecall → c.made.way ≡ Taken → 0 < m.script.settings.tworkers
   pub ocall : c.made.kind ≡ Ocall → (arguments : List Argument) × (steps : List Step) × (out : OcallOutcome) × IsOcall m log c arguments steps out
 
--- one of the loads of an ECALL's frame and `in` parameters, before its body begins
+-- a load of an ECALL's snapshot, that is of its frame or an `in` parameter, before its body begins
 pub record IsArgumentLoad (m : Machine) (calls : List Call) (log : List Step) (place : ℕ) (s : Step) (c : Call) : Type 0 where
   pub is_ecall : c.made.kind ≡ Ecall
   pub is_load : s.kind ≡ Load
@@ -88,10 +86,11 @@ pub record IsFrameStore (m : Machine) (log : List Step) (place : ℕ) (s : Step)
   pub before_host : place < c.made.first + length (steps_of made_it.entering)
   pub inside : IsWordIn c.made.frame (ocall_size made_it.function arguments) s.index
 
--- one of the loads of an OCALL's reply, after the host ran
+-- one of the loads of an OCALL's reply, after the host ran, within the OCALL's frame
 pub record IsReplyLoad (m : Machine) (log : List Step) (place : ℕ) (s : Step) (c : Call) : Type 0 where
   pub is_ocall : c.made.kind ≡ Ocall
   pub is_load : s.kind ≡ Load
+  pub in_host : s.index < m.script.settings.host
   pub arguments : List Argument
   pub steps : List Step
   pub out : OcallOutcome
@@ -99,6 +98,7 @@ pub record IsReplyLoad (m : Machine) (log : List Step) (place : ℕ) (s : Step) 
   pub made_it : IsMadeOcall m c arguments steps out
   pub from_turn : c.made.turn ≤ place
   pub to_last : place < c.made.last
+  pub inside : IsWordIn c.made.frame (ocall_size made_it.function arguments) s.index
 
 -- a step on a cell, which is no byte of host memory, while the body of an answered ECALL runs
 pub record IsCellStep (m : Machine) (calls : List Call) (log : List Step) (place : ℕ) (s : Step) (c : Call) : Type 0 where
@@ -115,9 +115,9 @@ pub record IsAccountedFor (m : Machine) (calls : List Call) (log : List Step) (p
   pub how : IsArgumentLoad m calls log place s call ⊎ IsAnswerStore m calls log place s call ⊎ IsFrameStore m log place s call ⊎ IsReplyLoad m log place s call
       ⊎ IsCellStep m calls log place s call
 
--- each ECALL found no room for its frame on the host stack, or was refused before its body began, with the status of the first row that held, or ran as a direct call on one snapshot of its arguments;
--- the enclave read of host memory these snapshots and the replies of OCALLs alone, wrote to it returns, `out` parameters and the frames of OCALLs alone,
--- and stepped on cells only while bodies ran. No premise speaks of what the host writes.
+-- Each ECALL found no room for its frame on the host stack, or was refused before its body began, with the status of the first row that held, or ran as a direct call on one snapshot of its arguments.
+-- The enclave read of host memory these snapshots and the replies of OCALLs alone, wrote to it returns, `out` parameters and the frames of OCALLs alone, and stepped on cells only while bodies ran.
+-- No premise speaks of what the host writes.
 pub record IsProtectedRun (m : Machine) (records : List CallRecord) (log : List Step) : Type 0 where
   -- the records' calls, each with the context that it met
   pub calls : List Call
@@ -125,12 +125,5 @@ pub record IsProtectedRun (m : Machine) (records : List CallRecord) (log : List 
   pub contexts : All (IsInContext m (first_context m.script.settings 0) calls log) calls
   -- not entered, refused, or a direct call on one snapshot
   pub protected : All (IsProtectedCall m calls log) calls
-  -- the enclave made no other step
+  -- the enclave made no other step: no double fetch, and no store to a byte that no call gave it
   pub steps : (place : ℕ) (s : Step) → slice_get log place ≡ Some s → s.side ≡ Enclave → IsAccountedFor m calls log place s
-
--- what the law rests on: the functions of the interface are ones that a run takes, the host stack lies in host memory, and bodies make their temporary blocks behind those of their parameters and hand fitting arguments to OCALLs
-pub record IsSoundMachine (m : Machine) : Type 0 where
-  pub ecalls : All (IsRunnableFunction true) m.interface.ecalls
-  pub ocalls : All (IsRunnableFunction false) m.interface.ocalls
-  pub stack : m.script.settings.stack ≤ m.script.settings.host
-  pub bodies : (ordinal : ℕ) → IsSoundBody m ordinal

@@ -6,20 +6,15 @@ ghost use Rattle.word_port.specs.Limits.{Progress};
 ghost use Rattle.word_port.specs.Runs.{Runs};
 ghost use Rattle.call_machine.specs.declared.Machine.{Machine};
 ghost use Rattle.call_machine.specs.Result.{Outcome};
-ghost use Rattle.call_machine.specs.Plain.{IsPlainMachine};
+ghost use Rattle.call_machine.specs.Sound.{IsSoundMachine};
 ghost use Rattle.call_machine.specs.Reported.{IsReportOf, beginning, first_thread};
-ghost use Rattle.run_laws.specs.Protected.{IsProtectedRun, IsSoundMachine};
+ghost use Rattle.run_laws.specs.Protected.{IsProtectedRun};
 ghost use Rattle.run_laws.specs.Examples.{Examples};
 ghost use Rattle.run_laws.specs.Reports.{IsProtectedReport};
 
 /// Every run of a machine's first thread is protected, whatever its words answered: OCALLs may be nested as deep as the call stack goes.
 pub fn run_law()
     ensures { (m : Machine) (limit : ℕ) (after : Progress) (outcome : Outcome) → IsSoundMachine m → Runs (first_thread m) (beginning m limit) after outcome → IsProtectedRun m outcome.records after.port.log }
-{}
-
-/// A machine that the engine takes is sound.
-pub fn plain_machine_law()
-    ensures { (m : Machine) → IsPlainMachine m → IsSoundMachine m }
 {}
 
 /// The report of a machine is that of a protected run.

@@ -1,12 +1,8 @@
 use Rattle.std.proofs.Common.{Err}
 use Rattle.call_laws.proofs.BackLaws.{refused_run_back}
 use Rattle.call_laws.proofs.EntryLaws.{entered_run}
-use Rattle.call_laws.proofs.LoadsAlone.{refused_alone}
 use Rattle.call_laws.proofs.refused_run_law.Goals as goal
 
 pub returns : goal.returns
-returns c = record {
-  events = λ m ocalls cx ordinal address events status.
-      (entered_run m ocalls cx ordinal address events (Err status), refused_run_back m ocalls cx ordinal address events status);
-  loads = λ m ocalls cx ordinal address events status h. refused_alone m cx ordinal address events status (entered_run m ocalls cx ordinal address events (Err status) h);
-}
+returns c = λ m ocalls cx ordinal address events status.
+    (entered_run m ocalls cx ordinal address events (Err status), refused_run_back m ocalls cx ordinal address events status)

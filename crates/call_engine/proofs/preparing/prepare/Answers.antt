@@ -1,6 +1,7 @@
 use Rattle.std.proofs.Common.{rules}
 use Rattle.call_engine.specs.Prepared.{shown}
 use Rattle.call_engine.proofs.CauseLaws.{script_unread, prepared, unprepared}
+use Rattle.call_engine.proofs.SoundLaws.{sound_if_plain}
 use Rattle.call_engine.proofs.preparing.prepare.Goals as goal
 
 pub returns-in_err-gathered-clause-err : goal.returns-in_err-gathered-clause-err
@@ -29,3 +30,6 @@ returns-clause-err g c =
     (shown (g.F.Files.contents c.read_edl.new.files) (g.F.Files.read_faults c.read_edl.new.files) (g.F.Files.misses c.read_edl.new.files))
     (shown (g.F.Files.contents c.read_file.new.files) (g.F.Files.read_faults c.read_file.new.files) (g.F.Files.misses c.read_file.new.files))
     c.read_edl.ensures.kept c.deref.ensures.value c.in_ok-gathered.ensures.ok c.in_ok-text.ensures.ok c.machine_of.ensures.err
+
+pub returns-clause-sound : goal.returns-clause-sound
+returns-clause-sound g c = sound_if_plain c.machine_of.result c.machine_of.ensures.plain
