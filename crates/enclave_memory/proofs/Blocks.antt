@@ -1,12 +1,12 @@
 -- Laws of an arena as a stack of byte lists.
-use Rattle.std.proofs.Common.{ℕ, zero, suc, ◌+◌, ◌-◌, ◌<◌, ◌≤◌, ◌≡◌, List, [], ◌∷◌, ◌++◌, length, take, drop, sum_by, Option, Some, None, slice_get, slice_set, refl, ap, sym, ◌∙◌, subst, arith, inl, inr}
+use Rattle.std.proofs.Common.{ℕ, zero, suc, ◌+◌, ◌<◌, ◌≤◌, ◌≡◌, List, [], ◌∷◌, ◌++◌, length, take, Option, Some, None, slice_get, slice_set, refl, ap, sym, ◌∙◌, subst, arith, inl, inr}
 use Rattle.std.proofs.lemmas.List.Sums.{sum_by-cons, sum_by-append, sum_by-take-le}
 use Rattle.std.proofs.lemmas.List.{take-set, take_at, take-append-le, nil_from_length, set_at, length_push}
 use Rattle.std.proofs.lemmas.Bool.{cases_lt}
 use Rattle.std.proofs.lemmas.Option.{slice_get_within}
 use Rattle.sgx_base.specs.Bytes.{rounded_size}
 use Rattle.enclave_memory.specs.declared.Block.{Block}
-use Rattle.enclave_memory.specs.Memory.{Memory, taken_by, room_of, IsBlock, IsLive, IsPush, IsWrite}
+use Rattle.enclave_memory.specs.Memory.{Memory, taken_by, IsBlock, IsLive, IsPush, IsWrite}
 
 abbrev taken_of : List ℕ → ℕ
 taken_of b = rounded_size (length b)

@@ -1,14 +1,13 @@
 -- What pushes, writes and pops make of an arena.
-use Rattle.std.proofs.Common.{ℕ, zero, suc, ◌+◌, ◌-◌, ◌*◌, ◌<◌, ◌≤◌, ◌/◌, ◌≡◌, ◌⊎◌, List, [], ◌∷◌, ◌++◌, length, take, drop, min, replicate, All, Some, slice_get, slice_set, slice_range, refl, ap, sym, ◌∙◌, subst, arith, inl, inr, length-append, length-drop}
+use Rattle.std.proofs.Common.{ℕ, zero, suc, ◌+◌, ◌-◌, ◌*◌, ◌<◌, ◌≤◌, ◌/◌, ◌≡◌, List, [], ◌∷◌, ◌++◌, length, take, drop, replicate, All, Some, slice_get, slice_set, slice_range, refl, ap, sym, ◌∙◌, subst, arith, inl, inr, length-append}
 use Rattle.std.proofs.lemmas.List.{drop-drop, take-replicate, drop-replicate, replicate-append-replicate, length-replicate, take_at, take_all, take-append-le, drop_all, append-nil}
 use Rattle.std.proofs.lemmas.Bool.{cases_lt}
 use Rattle.std.proofs.lemmas.List.Elements.{All-push, All-take}
 use Rattle.sgx_base.specs.Bytes.{rounded_size, with_bytes_at}
 use Rattle.enclave_memory.specs.declared.Block.{Block}
-use Rattle.enclave_memory.specs.Memory.{Memory, taken_by, room_of, IsBlock, IsLive, IsPush, IsWrite}
+use Rattle.enclave_memory.specs.Memory.{Memory, taken_by, IsBlock, IsLive, IsPush}
 use Rattle.enclave_memory.specs.Layout.{blocks_in, taken_in, memory_of, IsLaidOut}
-use Rattle.enclave_memory.proofs.Blocks.{taken_by-take}
-use Rattle.enclave_memory.proofs.Layouts.{IsPart, part_of, starts_at, length-blocks, taken_in-cons, taken_in-append, taken_in-take, taken_by-blocks, take-blocks, blocks-append, length-with, drop-with, drop-with_shift, write-blocks, blocks-with}
+use Rattle.enclave_memory.proofs.Layouts.{IsPart, part_of, starts_at, taken_in-cons, taken_in-append, taken_in-take, taken_by-blocks, take-blocks, blocks-append, length-with, drop-with, drop-with_shift, write-blocks, blocks-with}
 
 -- an arena as its lists, and as callers see it
 pub record IsKept (ls bs : List ℕ) (taken listable : ℕ) (m : Memory) : Type 0 where

@@ -2,7 +2,7 @@
 use Rattle.std.proofs.Common.{◌≡◌, ℕ, zero, suc, ◌+◌, ◌-◌, ◌<◌, ◌^◌, Bool, true, false, List, [], ◌∷◌, ◌++◌, length, replicate, refl, sym, ap, ◌∙◌, arith, w8, w64}
 use seplogic.Ra.Ura.{Ura}
 use base.Fraction.{full_share}
-use base.Fml.{Fml, Lft, GName, feq, fsep, ftrue, fat, froom, fdead, flent}
+use base.Fml.{Lft, GName, feq, fsep, ftrue, fat, froom, fdead, flent}
 use base.Logic.{SProp, ent, sep, ex, emp, guard, fst∗, never}
 use mir.Syntax.{Ty, named, ty_int, ty_array}
 use mir.Val.{Val, vint, vptr, vstruct, vcons, vnil, of_list}

@@ -149,6 +149,14 @@ impl Drop for Arena {
     }
 }
 
+/// Threads may pass an arena on, and share it.
+fn crosses_threads(arena: &Arena) {
+    takes_shared(arena);
+}
+
+/// Takes a value that threads may pass on and share.
+fn takes_shared<T: Send + Sync>(_value: &T) {}
+
 /// Takes lengths off the end until the blocks that are left take so many bytes as the mark says.
 fn unlist(lengths: &mut Vec<u32>, taken: u32, mark: u32)
     requires taken { taken ≡ taken_in lengths.old.items }

@@ -1,5 +1,4 @@
-use Rattle.std.proofs.Common.{ℕ, List, ◌≡◌, ◌∙◌, ◌+◌, ◌≤◌, ap, length, slice_range, arith}
-use Rattle.enclave_memory.specs.Memory.{IsBlock}
+use Rattle.std.proofs.Common.{◌≡◌, ◌∙◌, ◌+◌, ◌≤◌, ap, length, slice_range, arith}
 use Rattle.enclave_memory.proofs.Changes.{IsPlaced, placed, live_within, size_is}
 use Rattle.enclave_memory.proofs.arena.Arena.bytes.Goals as goal
 

@@ -1,4 +1,4 @@
-use Rattle.std.proofs.Common.{ℕ, List, ◌≡◌, ◌∙◌, ◌+◌, ◌-◌, ◌≤◌, min, ap, sym, subst, length, vec_capacity, take, replicate, arith}
+use Rattle.std.proofs.Common.{◌≡◌, ◌∙◌, ◌-◌, ◌≤◌, min, ap, sym, subst, length, vec_capacity, take, replicate, arith}
 use Rattle.std.proofs.lemmas.List.{take_min}
 use Rattle.sgx_base.specs.Bytes.{with_bytes_at}
 use Rattle.enclave_memory.specs.Layout.{taken_in, memory_of, IsLaidOut}

@@ -1,6 +1,6 @@
-use Rattle.std.proofs.Common.{ℕ, List, ◌≡◌, ◌∙◌, ◌+◌, ◌≤◌, ap, sym, subst, length, vec_capacity, replicate, arith}
+use Rattle.std.proofs.Common.{◌≡◌, ◌+◌, ◌≤◌, sym, subst, length, vec_capacity, replicate, arith}
 use Rattle.sgx_base.specs.Bytes.{rounded_size}
-use Rattle.enclave_memory.specs.Memory.{taken_by, room_of, IsPush}
+use Rattle.enclave_memory.specs.Memory.{taken_by, IsPush}
 use Rattle.enclave_memory.specs.Layout.{memory_of, IsLaidOut}
 use Rattle.enclave_memory.proofs.Changes.{mark_is, size_is, listable_more, push_laid, push_seen}
 use Rattle.enclave_memory.proofs.arena.Arena.push_block.Goals as goal

@@ -1,6 +1,5 @@
 -- A `&` to a region lends its bytes.
 use denote.Array.{Array, Array-row_laws}
-use denote.ArrayMemory.{Single}
 use denote.Builtin.{u8}
 use denote.Param.Shared.{copy_shared}
 use denote.Plain.{uint_row_laws}

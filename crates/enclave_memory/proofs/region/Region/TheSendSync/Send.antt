@@ -8,7 +8,7 @@ use denote.Param.Send.{IsSend, part_keyless, array_send, owning_send, sendable}
 use denote.RawPtr.{Ptr, block_ptr, null_ptr, lies_at}
 use denote.Builtin.{RawPtr, usize}
 use Rattle.libc.specs.Heap.{chunk-Keyless}
-use Rattle.enclave_memory.specs.Region.{block_of, owned}
+use Rattle.enclave_memory.specs.Region.{block_of}
 use Rattle.enclave_memory.specs.contracts.region.Region as C
 
 u8-send : IsSend u8

@@ -1,4 +1,3 @@
-use denote.Array.{Array}
 use denote.Builtin.{u8, RawPtr, usize}
 use denote.Param.Send.{IsSync, array_sync, struct_sync, sendable}
 use denote.RawPtr.{Ptr, block_ptr, null_ptr, block_of, count_of, in_block}

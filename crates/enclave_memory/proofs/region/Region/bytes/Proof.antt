@@ -1,5 +1,5 @@
 -- `bytes` reads the two words through a `&`, and gives out the bytes that it lends. Assumes `Logic`.
-use Rattle.std.proofs.Common.{◌≡◌, ℕ, ◌+◌, ◌*◌, ◌<◌, ◌^◌, List, [], ◌∷◌, length, refl, ap, arith, w64}
+use Rattle.std.proofs.Common.{ℕ, ◌+◌, ◌*◌, ◌<◌, ◌^◌, List, [], ◌∷◌, length, refl, ap, arith, w64}
 use Rattle.std.proofs.raw_atomic.Walks.{proved}
 use Rattle.std.proofs.Words.{word_in, word_out, pointer_in, pointer_out}
 use seplogic.Ra.Ura.{Ura}
@@ -14,7 +14,7 @@ use types.Kit.{‵, raw, ◌⊛◌, at_ret, ◌$◌, ◌∵◌, !, qed, move, ke
 use types.Part.{agg}
 use types.Run.{enter, of_opd, load, look, stop, fld, no_more, and_then, first, blocks, exec, returns}
 use types.ByLocal.{alloc_all, pass_all, free_all, look_at, get, is, through, sets, sets_last, env}
-use denote.Builtin.{u8, usize, RefOf}
+use denote.Builtin.{usize, RefOf}
 use denote.Exit.{yes}
 use denote.Memory.{hidden_shr}
 use denote.Opens.{shr_dup, unhide, hide}

@@ -5,7 +5,7 @@ use base.Fraction.{full_share}
 use base.Logic.{emp, id⊢, fst∗, never}
 use base.Fml.{feq, fsep, froom, ftrue, flft}
 use mir.Syntax.{ty_array, ty_int, ty_unit}
-use mir.Val.{Val, vint, vptr, vunit, has_ty, WT}
+use mir.Val.{Val, vptr, vunit, has_ty, WT}
 use contract.Monad.{fact, fact_i}
 use contract.Running.{tables}
 use prog.Capped.{capped_is}
@@ -16,10 +16,8 @@ use types.Kit.{‵, raw, ◌⊛◌, some, later, prop, at_ret, ◌$◌, ◌∵�
 use types.Part.{whole, sub}
 use types.Run.{enter, of_opd, lit, unit_lit, stop, fld, no_more, and_then, first, blocks, exec, returns}
 use types.ByLocal.{alloc_all, pass_all, free_all, look_at, get, get_in, sets, lands_last, env}
-use denote.Array.{Array}
-use denote.Builtin.{u8, usize, unit, RefOf}
+use denote.Builtin.{usize, unit, RefOf}
 use denote.Exit.{yes}
-use denote.Memory.{part_at}
 use denote.Plain.{uint_vals, uint_Makes}
 use denote.RattleType.{owns}
 use denote.RawPtr.{Ptr, block_ptr, null_ptr, in_a_block}

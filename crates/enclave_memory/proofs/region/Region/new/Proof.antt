@@ -2,13 +2,12 @@
 use Rattle.std.proofs.Common.{◌≡◌, ℕ, zero, suc, ◌+◌, ◌-◌, ◌*◌, ◌<◌, ◌≤◌, ◌^◌, Bool, true, false, List, [], ◌∷◌, length, replicate, refl, sym, ◌∙◌, arith, lit<, w8, w64}
 use Rattle.std.proofs.lemmas.List.{length-replicate}
 use Rattle.std.proofs.raw_atomic.Walks.{proved}
-use Rattle.std.specs.Prelude.{IfOk}
 use mathlib.Core.WellFounded.InvImage
 use lib.Dec.{ltb→lt, nltb→le}
 use lib.WfN.{lt-wf_rel}
 use base.Fraction.{full_share}
 use base.Logic.{SProp, emp, id⊢}
-use base.Fml.{feq, fsep, fat, froom, ftrue, flft}
+use base.Fml.{fat, froom, ftrue, flft}
 use mir.Syntax.{named, ty_int, ty_array}
 use mir.Val.{Val, vint, vptr, vstruct, vcons, vnil}
 use contract.Monad.{fact, fact_i}
@@ -16,11 +15,10 @@ use contract.Running.{tables, tables_of}
 use prog.Capped.{capped_is}
 use prog.Memory.{size, align, capped}
 use prog.Wp.{Out, Wp, at_return, after_seq, after_block, after_turn}
-use types.Logic.{sem}
-use types.Kit.{Item, Sq, any_q, runs, ‵, raw, ◌⊛◌, some, given, later, at_ret, ◌$◌, ◌∵◌, !, qed, by, move, keep, drop, use0, use1, use2, split, join, fsplit, fjoin, feq_i, flt_i, pick, await, rewrite, suffices, frame, done}
+use types.Kit.{Item, Sq, any_q, runs, ‵, raw, ◌⊛◌, some, given, later, at_ret, ◌$◌, ◌∵◌, !, qed, move, keep, drop, use0, use1, use2, split, join, fsplit, fjoin, feq_i, pick, await, rewrite, suffices, frame, done}
 use types.Match.{live, vrt, in_variant}
 use types.Part.{whole, agg}
-use types.Run.{enter, of_opd, lit, bin, stop, fld, no_more, and_then, init, assigns, assigns_last, first, blocks, skips, jumps, branches, switches_on, exec, returns, returns_within, loops, again, Below}
+use types.Run.{enter, of_opd, lit, bin, stop, fld, no_more, and_then, init, assigns_last, first, blocks, skips, jumps, branches, switches_on, exec, returns, returns_within, loops, again, Below}
 use types.ByLocal.{alloc_all, pass_all, free_all, look_at, get, get_in, get_tag, through, sets, sets_last, lands_as, env, holding, forget_but, take_at, give_at}
 use denote.Array.{Array}
 use denote.Builtin.{u8, usize, RefOf}
@@ -43,7 +41,7 @@ use denote.Triple.Spec.{triple_of}
 use denote.Triple.Table.{framed}
 use denote.Triple.Walked.{Stays, walk_of, says, stay_dropped, Goes-dropped, ends_at}
 use Rattle.core.proofs.alloc.Calls.{Answer, Answer-typed, answer_val, got}
-use Rattle.core.proofs.alloc.Shapes.{after, head, arm_body}
+use Rattle.core.proofs.alloc.Shapes.{after, arm_body}
 use Rattle.core.proofs.result.Made.{Ok-of, Err-of}
 use Rattle.core.specs.Allocator.{block_if_ok}
 use Rattle.core.specs.contracts.alloc.AllocError as AE
@@ -53,7 +51,7 @@ use Rattle.libc.specs.Heap.{chunk}
 use Rattle.std_heap.specs.contracts.Global.{the_row as Heap}
 use Rattle.std_heap.specs.contracts.GlobalAllocator.allocate as g
 use Rattle.std_heap.proofs.GlobalAllocator.allocate.Met.{met}
-use Rattle.enclave_memory.specs.Region.{block_of, owned as held}
+use Rattle.enclave_memory.specs.Region.{block_of}
 use Rattle.enclave_memory.specs.contracts.region.Region as C
 use Rattle.enclave_memory.specs.contracts.region.Region.new as f
 use Rattle.enclave_memory.proofs.Walks.{zero_more, one_byte, words_made, answered, answers}

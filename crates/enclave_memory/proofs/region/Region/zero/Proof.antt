@@ -10,7 +10,7 @@ use mir.Val.{Val, vunit}
 use contract.Monad.{fact, fact_i}
 use contract.Running.{tables}
 use types.Logic.{sem}
-use types.Kit.{‵, raw, ◌⊛◌, some, later, at_ret, ◌$◌, ◌∵◌, !, qed, move, keep, drop, use0, use1, use2, use3, split, join, fsplit, fsplit3, fjoin, feq_l, feq_i, pick, await, rewrite, suffices, frame, group, done}
+use types.Kit.{‵, raw, ◌⊛◌, some, later, at_ret, ◌$◌, ◌∵◌, !, qed, move, keep, use0, use1, use3, split, join, fsplit, fsplit3, fjoin, feq_l, feq_i, pick, await, rewrite, suffices, frame, group, done}
 use types.Part.{whole, sub, look_in, agg}
 use types.Run.{enter, of_opd, load, stop, fld, unit_lit, no_more, and_then, first, blocks, exec, returns}
 use types.ByLocal.{alloc_all, pass_all, free_all, look_at, get, is, through, sets, sets_last, lands_as, env}
@@ -23,8 +23,8 @@ use denote.Lend.{Held}
 use denote.Memory.{cell_at, part_at}
 use denote.Plain.{uint_vals, uint_Tells, uint_Makes}
 use denote.RattleType.{owns}
-use denote.RawPtr.{Ptr, block_ptr, null_ptr, in_a_block}
-use denote.Ref.{MutRef, mut_vals, mut_Tells}
+use denote.RawPtr.{Ptr, null_ptr, in_a_block}
+use denote.Ref.{mut_vals, mut_Tells}
 use denote.Signature.{plain, types_at}
 use denote.Slice.{MutSlice, slice_val, finally}
 use denote.Steps.{nothing, owned, opens, closes, peeks, heard, only}
