@@ -1,0 +1,6 @@
+pub mod Crossing
+pub mod Names
+pub mod Seating
+pub mod Shuffles
+pub mod Steps
+pub mod WriteLaws
