@@ -1,0 +1,4 @@
+pub mod LoopLaws
+pub mod OutcomeLaws
+pub mod StepLaws
+pub mod WaitLaws
