@@ -51,7 +51,7 @@ module _ (R : Type 0) (pool : Slots) (slot : ℕ) (at : IsSlotOf pool slot) wher
       (λ ordinal frame. weaker_requests (λ q. IsElsewhere pool q.index) (λ q. q.index ≢ slot) (λ q far. not_slot q.index far) (h.setup.serve ordinal frame) (h.serves ordinal frame))
       (not_slot h.setup.stop h.stops) more_than_any le) h.begun h.waits
 
-  caller_ended : (log : List Step) (end : Option ℕ) → IsCallerLog log (ret end) → PhaseLeads slot idle log idle
+  pub caller_ended : (log : List Step) (end : Option ℕ) → IsCallerLog log (ret end) → PhaseLeads slot idle log idle
   caller_ended log end h =
       let led : Led slot Any idle (steps_of h.events) (ret end) (λ x m left. (m ≡ idle) × (left ≤ more_than_any)) = caller_led log (ret end) h in
       subst (λ l. PhaseLeads slot idle l idle) h.steps (subst (λ m. PhaseLeads slot idle (steps_of h.events) m) led.follows.0 led.leads)
@@ -78,6 +78,9 @@ module _ (R : Type 0) (pool : Slots) (slot : ℕ) (at : IsSlotOf pool slot) wher
   left_leads log (IsLeftRole.works rest h) =
       let led : Led slot HoldsNothing idle (steps_of h.events) rest (λ x m left. (m ≡ idle) × (left ≤ more_than_any)) = worker_led log rest h in
       (led.last, led.valid, subst (λ l. PhaseLeads slot idle l led.last) h.steps led.leads)
+
+  pub worker_leads : (log : List Step) (rest : Interaction (List R)) → IsWorkerLog R pool log rest → (last : Phase) × HoldsNothing last × PhaseLeads slot idle log last
+  worker_leads log rest h = left_leads log (IsLeftRole.works rest h)
 
   done_leads : (done : List (List Step)) → All (IsWholeRole R pool) done → PhaseLeads slot idle (flat_map (λ l. l) done) idle
   done_leads [] h = refl

@@ -1,19 +1,20 @@
 //! Laws of switchless calls, as contracts: calls that workers served and calls that callers took are the same.
 #![tactic(auto)]
 
-ghost use Rattle.std.specs.Prelude.{ℕ, ◌≡◌, ◌<◌, ◌^◌, List, [], ◌∷◌, ◌++◌, IsPermutation, IsTrue};
+ghost use Rattle.std.specs.Prelude.{ℕ, ◌≡◌, ◌<◌, ◌^◌, List, [], ◌∷◌, ◌++◌, IsTrue, Option};
 ghost use Rattle.std.specs.List.{All, Contains};
 ghost use Rattle.word_port.specs.declared.Step.{Step};
+ghost use Rattle.word_port.specs.Interaction.{Interaction, ret};
 ghost use Rattle.word_port.specs.History.{IsLegal, history_of, words_in_the_end, IsShuffleOf};
 ghost use Rattle.switchless.specs.declared.Pool.{Pool};
 ghost use Rattle.switchless.specs.Slots.{place_of_frame, offered_word, is_offered, is_done, done_word, ordinal_in, place_in, frame_in, status_in};
 ghost use Rattle.switchless.specs.Counts.{taken_in, served_in, Agree};
-ghost use Rattle.switchless_laws.specs.Moments.{IsSlotOf, AreFree, KeepsSlots, LeavesSlots, IsSettledMoment, IsHistory, IsCounted};
-ghost use Rattle.switchless_laws.specs.Phases.{Phase, KeepsSlot};
+ghost use Rattle.switchless_laws.specs.Moments.{IsSlotOf, AreFree, HoldsNothing, KeepsSlots, LeavesSlots, IsSettledMoment, IsHistory, IsCounted};
+ghost use Rattle.switchless_laws.specs.Phases.{Phase, idle, KeepsSlot};
 ghost use Rattle.switchless_laws.specs.Held.{held_in};
 ghost use Rattle.switchless_laws.specs.Example.{one_slot, calling, working, calling_and_working, the_call, serving_twice, collecting_early, the_call_unserved};
 ghost use Rattle.switchless_laws.specs.Servings.{offering, acceptance, leaving, collecting, IsServedWord, WasLeft};
-ghost use Rattle.switchless_laws.specs.Roles.{IsParticipant, HasLeft};
+ghost use Rattle.switchless_laws.specs.Roles.{IsCallerLog, IsWorkerLog, IsParticipant, HasLeft};
 
 /// Where the slots of a pool are free at first, and each participant plays roles of callers and workers, one after
 /// another, and makes no other step on a slot: at each moment of a legal history each ordinal, frame and status was
@@ -45,6 +46,15 @@ pub fn slots_law()
         AreFree pool (words_in_the_end words (history_of whole)) }
     ensures agree { (pool : Pool) (words : List ℕ) (participants : List (List Step)) (whole : List Step) →
         All (LeavesSlots pool) participants → IsHistory pool words participants whole → Agree pool participants }
+{}
+
+/// A caller's role ends with nothing of its own in a slot: what it offered it took back or collected. A worker that has accepted a
+/// word makes no other step on its slot but to leave that word done; wherever its role is cut, no word of its own is offered.
+pub fn roles_law<R>()
+    ensures caller { (pool : Pool) (log : List Step) (end : Option ℕ) (slot : ℕ) → IsSlotOf pool slot →
+        IsCallerLog log (ret end) → KeepsSlot slot log idle }
+    ensures worker { (pool : Pool) (log : List Step) (rest : Interaction (List R)) (slot : ℕ) → IsSlotOf pool slot →
+        IsWorkerLog R pool log rest → (last : Phase) × HoldsNothing last × KeepsSlot slot log last }
 {}
 
 /// Two workers never serve one task: between two acceptances at a slot a caller offered the second one's word there.
