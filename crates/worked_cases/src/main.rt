@@ -68,11 +68,17 @@ impl Counts {
     }
 }
 
-/// Prints a case's line in its file and its name, and behind them what is said of it.
-fn tell<R: Runtime + AllocGlobal>(rt: &R, file: &str, case: &Case, said: &str) -> io::Result<()> {
+/// Prints a case's line in its file, its name and the number that it was run for, and behind them what is said of it.
+fn tell<R: Runtime + AllocGlobal>(
+    rt: &R,
+    file: &str,
+    case: &Case,
+    number: u64,
+    said: &str,
+) -> io::Result<()> {
     let line = case.title.line;
     let name = shown(rt.alloc(), case.title.value())?;
-    println!(rt; "{file}:{line}: {name}: {said}")
+    println!(rt; "{file}:{line}: {name} ({number}): {said}")
 }
 
 /// Runs a case for each number of its span.
@@ -90,7 +96,7 @@ fn run_span<R: Runtime + AllocGlobal>(
         };
         counts.run = counts.run.saturating_add(1);
         if let Some(said) = difference {
-            tell(rt, file, case, said.as_str())?;
+            tell(rt, file, case, number, said.as_str())?;
             counts.differ = counts.differ.saturating_add(1);
         }
     }
