@@ -4,6 +4,8 @@
 #[cfg(test)]
 mod arenas;
 #[cfg(test)]
+mod bodies;
+#[cfg(test)]
 mod bridges;
 #[cfg(test)]
 mod bytes;
