@@ -2,8 +2,8 @@
 use Rattle.std.proofs.Common.{◌≡◌, List, [], ◌∷◌, Some, None, refl, ap}
 use Rattle.std.specs.Prelude.{slice_get, Result, Ok, Err}
 use Rattle.std.proofs.lemmas.Option.{none-some, same_Some}
-use Rattle.edl_parser.specs.declared.Gathered.{Gathered}
-use Rattle.edl_parser.specs.Files.{fault_in}
+use Rattle.edl_grammar.specs.declared.Gathered.{Gathered}
+use Rattle.edl_grammar.specs.Files.{fault_in}
 use Rattle.edl_layout.specs.declared.NamedShape.{NamedShape}
 use Rattle.edl_interface.specs.declared.Interface.{Interface}
 use Rattle.attr_rules.specs.declared.RuleFault.{RuleFault}

@@ -4,8 +4,8 @@ use Rattle.std.specs.Prelude.{fold}
 use Rattle.std.proofs.Math.Nat.{lt-div-mul-add, le-max_left}
 use Rattle.std.proofs.lemmas.Option.{none-some, same_Some}
 use Rattle.sgx_base.specs.Bytes.{round_up}
-use Rattle.edl_parser.specs.declared.Declared.{Declared}
-use Rattle.edl_parser.specs.declared.Written.{Written}
+use Rattle.edl_grammar.specs.declared.Declared.{Declared}
+use Rattle.edl_grammar.specs.declared.Written.{Written}
 use Rattle.edl_layout.specs.Shape.{Shape, address, align_of, end_of, all_known, structure_shape}
 use Rattle.edl_layout.specs.Frame.{is_measured, field_shape, param_fields}
 use Rattle.attr_rules.specs.Accepted.{place_behind, offset_by, offset_behind}

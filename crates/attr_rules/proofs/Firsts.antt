@@ -4,12 +4,12 @@ use Rattle.std.specs.Prelude.{slice_get, option_map, option_and_then, filter_map
 use Rattle.std.specs.List.{flat_map, cons_option, list_any}
 use Rattle.std.specs.Option.{option_or, option_to_list}
 use Rattle.std.proofs.Math.Seq.{take-suc}
-use Rattle.edl_parser.specs.declared.SourceFile.{SourceFile}
-use Rattle.edl_parser.specs.Files.{TypeIn, types_from}
+use Rattle.edl_grammar.specs.declared.SourceFile.{SourceFile}
+use Rattle.edl_grammar.specs.Files.{TypeIn, types_from}
 use Rattle.attr_rules.specs.declared.rows.Breach.{Breach}
 use Rattle.attr_rules.specs.declared.rows.Broken.{Broken}
-use Rattle.edl_parser.specs.declared.Attribute.{Attribute}
-use Rattle.edl_parser.specs.declared.NameAt.{NameAt}
+use Rattle.edl_grammar.specs.declared.Attribute.{Attribute}
+use Rattle.edl_grammar.specs.declared.NameAt.{NameAt}
 use Rattle.std.specs.Str.{bytes_eq}
 use Rattle.attr_rules.specs.Rules.{RuleRow, broken_in, repeated, is_second, at}
 use Rattle.attr_rules.specs.Breaches.{breach_of, or_breach, first_breach, in_file}

@@ -3,8 +3,8 @@ use Rattle.std.proofs.Common.{arith, ℕ, zero, suc, ◌≡◌, ◌+◌, ◌<◌
 use Rattle.std.specs.Prelude.{slice_get, option_map, if◌then◌else◌}
 use Rattle.std.specs.List.{list_any}
 use Rattle.std.proofs.Math.Seq.{take-suc}
-use Rattle.edl_parser.specs.declared.SourceFile.{SourceFile}
-use Rattle.edl_parser.specs.Files.{FunctionIn}
+use Rattle.edl_grammar.specs.declared.SourceFile.{SourceFile}
+use Rattle.edl_grammar.specs.Files.{FunctionIn}
 use Rattle.attr_rules.specs.declared.functions.Taken.{Taken}
 use Rattle.attr_rules.specs.declared.names.Names.{Names}
 use Rattle.attr_rules.specs.declared.rows.Broken.{Broken}

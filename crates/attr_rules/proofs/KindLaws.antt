@@ -3,14 +3,14 @@ use Rattle.std.proofs.Common.{ℕ, suc, ◌≡◌, Bool, true, false, true≢fal
 use Rattle.std.specs.Prelude.{fold, find, option_map, codes}
 use Rattle.std.specs.Option.{option_or}
 use Rattle.std.specs.Str.{bytes_eq}
-use Rattle.edl_parser.specs.declared.Gathered.{Gathered}
-use Rattle.edl_parser.specs.declared.SourceFile.{SourceFile}
-use Rattle.edl_parser.specs.declared.TypeDecl.{TypeDecl}
-use Rattle.edl_parser.specs.declared.TypeDecl.TheVariants as decl
-use Rattle.edl_parser.specs.declared.Base.TheVariants as base
-use Rattle.edl_parser.specs.declared.Tag.{Tag}
-use Rattle.edl_parser.specs.declared.Tag.TheVariants as tag
-use Rattle.edl_parser.specs.Files.{TypeIn, types_of, types_from}
+use Rattle.edl_grammar.specs.declared.Gathered.{Gathered}
+use Rattle.edl_grammar.specs.declared.SourceFile.{SourceFile}
+use Rattle.edl_grammar.specs.declared.TypeDecl.{TypeDecl}
+use Rattle.edl_grammar.specs.declared.TypeDecl.TheVariants as decl
+use Rattle.edl_grammar.specs.declared.Base.TheVariants as base
+use Rattle.edl_grammar.specs.declared.Tag.{Tag}
+use Rattle.edl_grammar.specs.declared.Tag.TheVariants as tag
+use Rattle.edl_grammar.specs.Files.{TypeIn, types_of, types_from}
 use Rattle.edl_layout.specs.Meaning as layout
 use Rattle.attr_rules.specs.declared.meanings.Meant.{Meant}
 use Rattle.attr_rules.specs.declared.meanings.Meant.TheVariants as meant

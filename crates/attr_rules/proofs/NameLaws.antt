@@ -10,7 +10,7 @@ use Rattle.std.proofs.lemmas.List.Sums.{fold-append}
 use Rattle.std.proofs.lemmas.Grind.{flat_map-append}
 use Rattle.std.proofs.lemmas.Bool.Decides.{nat_tests}
 use Rattle.indexmap.specs.IndexMap.{insert_entry}
-use Rattle.edl_parser.specs.declared.NameAt.{NameAt}
+use Rattle.edl_grammar.specs.declared.NameAt.{NameAt}
 use Rattle.attr_rules.specs.declared.names.Names.{Names}
 use Rattle.attr_rules.specs.Kinds.{told}
 use Rattle.attr_rules.specs.Names.{TellsNames, with_name, earliest, earlier_of, is_before}

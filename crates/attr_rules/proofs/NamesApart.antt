@@ -7,12 +7,12 @@ use Rattle.std.proofs.lemmas.Option.{same_Some}
 use Rattle.std.proofs.lemmas.Cmp.{nat_list_eq_equiv}
 use Rattle.std.proofs.lemmas.Slice.Eq.{bytes_eq-Decides}
 use Rattle.std.proofs.lemmas.List.Elements.{All-contains, Contains-append_cases}
-use Rattle.edl_parser.specs.declared.Gathered.{Gathered}
-use Rattle.edl_parser.specs.declared.SourceFile.{SourceFile}
-use Rattle.edl_parser.specs.declared.NameAt.{NameAt}
-use Rattle.edl_parser.specs.declared.TypeDecl.{TypeDecl}
-use Rattle.edl_parser.specs.declared.TypeDecl.TheVariants as decl
-use Rattle.edl_parser.specs.Files.{TypeIn, types_of, types_from, token_of}
+use Rattle.edl_grammar.specs.declared.Gathered.{Gathered}
+use Rattle.edl_grammar.specs.declared.SourceFile.{SourceFile}
+use Rattle.edl_grammar.specs.declared.NameAt.{NameAt}
+use Rattle.edl_grammar.specs.declared.TypeDecl.{TypeDecl}
+use Rattle.edl_grammar.specs.declared.TypeDecl.TheVariants as decl
+use Rattle.edl_grammar.specs.Files.{TypeIn, types_of, types_from, token_of}
 use Rattle.edl_layout.specs.Meaning.{is_named}
 use Rattle.attr_rules.specs.Rules.{at, is_second, is_second_name, type_name, type_names, names_in, tree_names, type_rows}
 use Rattle.attr_rules.specs.ForRun.{IsRead, AreInOneFile}

@@ -1,7 +1,7 @@
 -- The parameters of a function, one after the other.
 use Rattle.std.proofs.Common.{◌≡◌, Bool, List, [], ◌∷◌, ◌++◌, Option, option_map, refl, sym, ap, ◌∙◌, append_assoc, append-nil, flat_map}
-use Rattle.edl_parser.specs.declared.Gathered.{Gathered}
-use Rattle.edl_parser.specs.declared.Declared.{Declared}
+use Rattle.edl_grammar.specs.declared.Gathered.{Gathered}
+use Rattle.edl_grammar.specs.declared.Declared.{Declared}
 use Rattle.edl_layout.specs.declared.NamedShape.{NamedShape}
 use Rattle.edl_layout.specs.Shape.{Shape, all_known}
 use Rattle.edl_layout.specs.Ends.{ends_of}

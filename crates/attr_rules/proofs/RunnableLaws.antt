@@ -5,13 +5,13 @@ use Rattle.std.specs.List.{cons_option}
 use Rattle.std.proofs.lemmas.Option.{none-some, same_Some}
 use Rattle.std.proofs.lemmas.Bool.Decides.{nat_tests}
 use Rattle.std.proofs.lemmas.List.Elements.{All-nil, All-cons, All-head, All-tail, All-map, All-weaker}
-use Rattle.edl_parser.specs.declared.Gathered.{Gathered}
-use Rattle.edl_parser.specs.declared.SourceFile.{SourceFile}
-use Rattle.edl_parser.specs.declared.FuncDecl.{FuncDecl}
-use Rattle.edl_parser.specs.declared.Pick.{Pick}
-use Rattle.edl_parser.specs.declared.Declared.{Declared}
-use Rattle.edl_parser.specs.declared.Written.{Written}
-use Rattle.edl_parser.specs.Files.{types_of, FunctionIn, trusted_pick, untrusted_pick, trusted_of, untrusted_of}
+use Rattle.edl_grammar.specs.declared.Gathered.{Gathered}
+use Rattle.edl_grammar.specs.declared.SourceFile.{SourceFile}
+use Rattle.edl_grammar.specs.declared.FuncDecl.{FuncDecl}
+use Rattle.edl_grammar.specs.declared.Pick.{Pick}
+use Rattle.edl_grammar.specs.declared.Declared.{Declared}
+use Rattle.edl_grammar.specs.declared.Written.{Written}
+use Rattle.edl_grammar.specs.Files.{types_of, FunctionIn, trusted_pick, untrusted_pick, trusted_of, untrusted_of}
 use Rattle.edl_layout.specs.declared.ForeignTypes.{ForeignTypes}
 use Rattle.edl_layout.specs.declared.NamedShape.{NamedShape}
 use Rattle.edl_layout.specs.Shape.{Shape, all_known, structure_shape}

@@ -5,10 +5,10 @@ use Rattle.std.specs.List.{flat_map}
 use Rattle.std.specs.Option.{option_or}
 use Rattle.std.proofs.lemmas.Grind.{flat_map-append}
 use Rattle.std.proofs.lemmas.List.Folds.{flat_map-map}
-use Rattle.edl_parser.specs.declared.Gathered.{Gathered}
-use Rattle.edl_parser.specs.declared.SourceFile.{SourceFile}
-use Rattle.edl_parser.specs.declared.TypeDecl.{TypeDecl}
-use Rattle.edl_parser.specs.Files.{TypeIn, types_of, types_from}
+use Rattle.edl_grammar.specs.declared.Gathered.{Gathered}
+use Rattle.edl_grammar.specs.declared.SourceFile.{SourceFile}
+use Rattle.edl_grammar.specs.declared.TypeDecl.{TypeDecl}
+use Rattle.edl_grammar.specs.Files.{TypeIn, types_of, types_from}
 use Rattle.attr_rules.specs.declared.rows.Broken.{Broken}
 use Rattle.attr_rules.specs.Rules.{broken_in, type_rows, type_rows_in, type_names, enumerator_names, names_in, tree_names}
 use Rattle.attr_rules.proofs.Firsts.{head, head-append, take_whole}

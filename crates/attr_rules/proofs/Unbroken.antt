@@ -4,9 +4,9 @@ use Rattle.std.specs.Prelude.{slice_get, All}
 use Rattle.std.specs.List.{cons_option}
 use Rattle.std.proofs.lemmas.Bool.Decides.{nat_tests}
 use Rattle.std.proofs.lemmas.List.Elements.{All-nil, All-cons}
-use Rattle.edl_parser.specs.declared.Gathered.{Gathered}
-use Rattle.edl_parser.specs.declared.Written.{Written}
-use Rattle.edl_parser.specs.Files.{TypeIn, FunctionIn, types_of, trusted_of, untrusted_of}
+use Rattle.edl_grammar.specs.declared.Gathered.{Gathered}
+use Rattle.edl_grammar.specs.declared.Written.{Written}
+use Rattle.edl_grammar.specs.Files.{TypeIn, FunctionIn, types_of, trusted_of, untrusted_of}
 use Rattle.attr_rules.specs.declared.rows.Broken.{Broken}
 use Rattle.attr_rules.specs.Rules.{RuleRow, broken, broken_in, type_rows, function_rows, without_public, beyond, first_function, row, max_functions}
 

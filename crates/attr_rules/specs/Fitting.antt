@@ -1,8 +1,8 @@
 -- The bounds of an interface that is accepted.
 use Rattle.std.specs.Prelude.{◌≡◌, ◌≤◌, ◌<◌, ◌*◌, ◌^◌, true, List, length, All}
-use Rattle.edl_parser.specs.declared.Gathered.{Gathered}
-use Rattle.edl_parser.specs.declared.Declared.{Declared}
-use Rattle.edl_parser.specs.Files.{FunctionIn, trusted_of, untrusted_of}
+use Rattle.edl_grammar.specs.declared.Gathered.{Gathered}
+use Rattle.edl_grammar.specs.declared.Declared.{Declared}
+use Rattle.edl_grammar.specs.Files.{FunctionIn, trusted_of, untrusted_of}
 use Rattle.edl_layout.specs.declared.NamedShape.{NamedShape}
 use Rattle.edl_layout.specs.Shape.{elements}
 use Rattle.edl_layout.specs.Frame.{is_array}

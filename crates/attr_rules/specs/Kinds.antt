@@ -4,11 +4,11 @@ use Rattle.std.specs.Map.{lookup}
 use Rattle.std.specs.HashMap.{HashMap}
 use Rattle.std.specs.Str.{bytes_eq}
 use denote.Ref.{Bor}
-use Rattle.edl_parser.specs.declared.Tag.{Tag}
-use Rattle.edl_parser.specs.declared.Tag.TheVariants as tag
-use Rattle.edl_parser.specs.declared.TypeDecl.{TypeDecl}
-use Rattle.edl_parser.specs.declared.TypeDecl.TheVariants as decl
-use Rattle.edl_parser.specs.Files.{TypeIn}
+use Rattle.edl_grammar.specs.declared.Tag.{Tag}
+use Rattle.edl_grammar.specs.declared.Tag.TheVariants as tag
+use Rattle.edl_grammar.specs.declared.TypeDecl.{TypeDecl}
+use Rattle.edl_grammar.specs.declared.TypeDecl.TheVariants as decl
+use Rattle.edl_grammar.specs.Files.{TypeIn}
 use Rattle.edl_layout.specs.Meaning as layout
 use Rattle.attr_rules.specs.declared.meanings.Meant.{Meant}
 use Rattle.attr_rules.specs.declared.meanings.Meant.TheVariants as meant

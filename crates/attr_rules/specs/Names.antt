@@ -1,7 +1,7 @@
 -- The earliest token of a name, and what a table of names tells.
 use Rattle.std.specs.Prelude.{◌≡◌, ℕ, min, Bool, false, nat_lt, if◌then◌else◌, List, Option, Some, None, fold}
 use Rattle.std.specs.Str.{bytes_eq}
-use Rattle.edl_parser.specs.declared.NameAt.{NameAt}
+use Rattle.edl_grammar.specs.declared.NameAt.{NameAt}
 use Rattle.attr_rules.specs.declared.names.Names.{Names}
 use Rattle.attr_rules.specs.Kinds.{told}
 

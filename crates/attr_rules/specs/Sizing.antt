@@ -1,8 +1,8 @@
 -- What a value that tells sizes rests on, and what short meanings say of sizes.
 use Rattle.std.specs.Prelude.{ℕ, Bool, true, false, nat_lt, if◌then◌else◌, List, Option, Some, None}
-use Rattle.edl_parser.specs.declared.Gathered.{Gathered}
-use Rattle.edl_parser.specs.declared.Tag.{Tag}
-use Rattle.edl_parser.specs.declared.Tag.TheVariants as tag
+use Rattle.edl_grammar.specs.declared.Gathered.{Gathered}
+use Rattle.edl_grammar.specs.declared.Tag.{Tag}
+use Rattle.edl_grammar.specs.declared.Tag.TheVariants as tag
 use Rattle.edl_layout.specs.declared.NamedShape.{NamedShape}
 use Rattle.edl_interface.specs.declared.Plain.{Plain}
 use Rattle.attr_rules.specs.declared.meanings.Meant.{Meant}

@@ -1,9 +1,9 @@
 -- The functions of an interface as the code holds them.
 use Rattle.std.specs.Prelude.{ℕ, Bool, true, false, List, [], ◌∷◌, Option}
-use Rattle.edl_parser.specs.declared.Gathered.{Gathered}
-use Rattle.edl_parser.specs.declared.SourceFile.{SourceFile}
-use Rattle.edl_parser.specs.declared.Pick.{Pick}
-use Rattle.edl_parser.specs.Files.{FunctionIn, trusted_pick, untrusted_pick}
+use Rattle.edl_grammar.specs.declared.Gathered.{Gathered}
+use Rattle.edl_grammar.specs.declared.SourceFile.{SourceFile}
+use Rattle.edl_grammar.specs.declared.Pick.{Pick}
+use Rattle.edl_grammar.specs.Files.{FunctionIn, trusted_pick, untrusted_pick}
 use Rattle.attr_rules.specs.declared.functions.Taken.{Taken}
 use Rattle.attr_rules.specs.declared.names.Names.{Names}
 use Rattle.attr_rules.specs.Names.{TellsNames}

@@ -3,11 +3,11 @@
 ghost use Rattle.std.specs.Prelude.{◌≡◌, List, Bool, not, ◌||◌, ◌&&◌, is_some, length, nat_lt, map, filter, slice_get, option_copied};
 ghost use Rattle.std.specs.List.{list_any};
 ghost use Rattle.std.specs.Str.{bytes_eq};
-ghost use Rattle.edl_parser.specs.declared.Attribute.{Attribute};
+ghost use Rattle.edl_grammar.specs.declared.Attribute.{Attribute};
 ghost use Rattle.edl_layout.specs.Frame as frame;
 ghost use Rattle.attr_rules.specs.Attributes as attributes;
 
-use edl_parser::{AttrValue, Attribute, Base, Declared, NameAt};
+use edl_grammar::{AttrValue, Attribute, Base, Declared, NameAt};
 
 /// Whether the bytes are the same.
 pub(crate) fn is(name: &[u8], spelling: &[u8]) -> bool

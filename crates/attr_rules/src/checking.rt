@@ -2,7 +2,7 @@
 
 ghost use Rattle.std.specs.Prelude.{◌≡◌, Bool, [], IfOk, slice_get, option_and_then};
 ghost use Rattle.std.specs.Option.{option_copied};
-ghost use Rattle.edl_parser.specs.Files.{fault_in};
+ghost use Rattle.edl_grammar.specs.Files.{fault_in};
 ghost use Rattle.edl_layout.specs.declared.ForeignTypes.{ForeignTypes};
 ghost use Rattle.edl_layout.specs.Faults.{HasLayouts};
 ghost use Rattle.edl_layout.specs.Table.{IsTable};
@@ -15,9 +15,9 @@ use crate::accepted::interface_of;
 use crate::functions::Functions;
 use crate::rows::Broken;
 use crate::sizes::Sizes;
+use edl_grammar::Gathered;
 use edl_layout::Layouts;
 use edl_lexer::Token;
-use edl_parser::Gathered;
 use sgx_base::Fault;
 use std::alloc::{AllocError, Global};
 

@@ -16,8 +16,8 @@ use crate::attributes::{
 use crate::places::Params;
 use crate::sizes::Sizes;
 use crate::{Amount, Class};
+use edl_grammar::{AttrValue, Attribute, Declared};
 use edl_layout::array_size;
-use edl_parser::{AttrValue, Attribute, Declared};
 use sgx_base::Passing;
 
 /// The direction of a copy.

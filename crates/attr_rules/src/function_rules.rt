@@ -3,8 +3,8 @@
 ghost use Rattle.std.specs.Prelude.{◌≡◌, ℕ, List, ◌++◌, IfOk, not, ◌&&◌, is_some, map, filter, slice_get, nat_lt, length, Some, None, if◌then◌else◌};
 ghost use Rattle.std.specs.List.{flat_map, list_any};
 ghost use Rattle.std.specs.Str.{bytes_eq};
-ghost use Rattle.edl_parser.specs.declared.Gathered.{Gathered};
-ghost use Rattle.edl_parser.specs.Files.{trusted_of, untrusted_of};
+ghost use Rattle.edl_grammar.specs.declared.Gathered.{Gathered};
+ghost use Rattle.edl_grammar.specs.Files.{trusted_of, untrusted_of};
 ghost use Rattle.attr_rules.specs.Accepted.{size_of as size_in};
 ghost use Rattle.attr_rules.specs.Breaches.{first_breach};
 ghost use Rattle.attr_rules.specs.Rules as rules;
@@ -16,8 +16,8 @@ use crate::names::{Names, function_names};
 use crate::param_rules::{params_breach, unless_placed};
 use crate::rows::{Breach, Broken, broken_at, row, row_at};
 use crate::sizes::size_of;
+use edl_grammar::{FuncDecl, NameAt, SourceFile, Written};
 use edl_layout::Layouts;
-use edl_parser::{FuncDecl, NameAt, SourceFile, Written};
 use sqlite_items::at;
 use std::alloc::{AllocError, Global};
 

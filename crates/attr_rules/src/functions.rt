@@ -2,14 +2,14 @@
 
 ghost use Rattle.std.specs.Prelude.{◌≡◌, ℕ, List, IfOk, OnOk, ◌++◌, option_to_list, if◌then◌else◌, map, filter_map, option_map, position};
 ghost use Rattle.std.specs.Str.{bytes_eq};
-ghost use Rattle.edl_parser.specs.Files.{trusted_of, untrusted_of};
+ghost use Rattle.edl_grammar.specs.Files.{trusted_of, untrusted_of};
 ghost use Rattle.attr_rules.specs.Kinds.{told};
 ghost use Rattle.attr_rules.specs.Places.{place_in, TellsPlaces};
 ghost use Rattle.attr_rules.specs.Taken.{function_in, picked};
 
 use crate::meanings::Meanings;
 use crate::places::Places;
-use edl_parser::{EdlFile, FuncDecl, Gathered, Pick};
+use edl_grammar::{EdlFile, FuncDecl, Gathered, Pick};
 use std::alloc::{AllocError, Global};
 
 /// A function, the number of its file, and whether it is trusted.

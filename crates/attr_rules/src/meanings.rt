@@ -2,13 +2,13 @@
 
 ghost use Rattle.std.specs.Prelude.{◌≡◌, ℕ, List, OnOk, IfOk, Some, if◌then◌else◌, option_copied, fold};
 ghost use Rattle.std.specs.Str.{bytes_eq};
-ghost use Rattle.edl_parser.specs.declared.Base.TheVariants as base;
-ghost use Rattle.edl_parser.specs.Files.{types_of, name_of as name_in};
+ghost use Rattle.edl_grammar.specs.declared.Base.TheVariants as base;
+ghost use Rattle.edl_grammar.specs.Files.{types_of, name_of as name_in};
 ghost use Rattle.attr_rules.specs.Attributes as attributes;
 ghost use Rattle.attr_rules.specs.Kinds as kinds;
 
 use crate::attributes::is;
-use edl_parser::{Base, Gathered, Tag, TypeDecl};
+use edl_grammar::{Base, Gathered, Tag, TypeDecl};
 use indexmap::IndexMap;
 use sgx_base::Name;
 use std::alloc::{AllocError, Global};

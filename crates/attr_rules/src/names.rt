@@ -2,15 +2,15 @@
 
 ghost use Rattle.std.specs.Prelude.{◌≡◌, ℕ, List, [], ◌∷◌, ◌++◌, OnOk, IfOk, map, option_to_list};
 ghost use Rattle.std.specs.List.{flat_map};
-ghost use Rattle.edl_parser.specs.declared.NameAt.{NameAt};
-ghost use Rattle.edl_parser.specs.Files as files;
+ghost use Rattle.edl_grammar.specs.declared.NameAt.{NameAt};
+ghost use Rattle.edl_grammar.specs.Files as files;
 ghost use Rattle.attr_rules.specs.Kinds.{told};
 ghost use Rattle.attr_rules.specs.Names as tables;
 ghost use Rattle.attr_rules.specs.Names.{TellsNames};
 ghost use Rattle.attr_rules.specs.Rules as rules;
 
 use crate::meanings::name_of;
-use edl_parser::{Declared, EdlFile, EnumValue, FuncDecl, TypeDecl};
+use edl_grammar::{Declared, EdlFile, EnumValue, FuncDecl, TypeDecl};
 use indexmap::IndexMap;
 use std::alloc::{AllocError, Global};
 

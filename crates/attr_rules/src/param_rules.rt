@@ -18,7 +18,7 @@ use crate::names::declared_names;
 use crate::places::Params;
 use crate::rows::{Breach, row, row_at, token_if};
 use crate::type_rules::has_no_length;
-use edl_parser::{Attribute, Base, Declared, NameAt};
+use edl_grammar::{Attribute, Base, Declared, NameAt};
 use std::alloc::{AllocError, Global};
 
 // ---- directions

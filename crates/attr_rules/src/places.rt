@@ -5,7 +5,7 @@ ghost use Rattle.std.specs.Str.{bytes_eq};
 ghost use Rattle.attr_rules.specs.Kinds.{told};
 ghost use Rattle.attr_rules.specs.Places.{TellsPlaces, place_in};
 
-use edl_parser::Declared;
+use edl_grammar::Declared;
 use indexmap::IndexMap;
 use sqlite_items::at;
 use std::alloc::{AllocError, Global};

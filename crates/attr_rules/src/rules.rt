@@ -2,8 +2,8 @@
 
 ghost use Rattle.std.specs.Prelude.{◌≡◌, ◌<◌, ◌^◌, ◌++◌, IfOk, length, map, slice_get};
 ghost use Rattle.std.specs.List.{flat_map, list_any};
-ghost use Rattle.edl_parser.specs.declared.Gathered.{Gathered};
-ghost use Rattle.edl_parser.specs.Files.{types_of, trusted_of, untrusted_of};
+ghost use Rattle.edl_grammar.specs.declared.Gathered.{Gathered};
+ghost use Rattle.edl_grammar.specs.Files.{types_of, trusted_of, untrusted_of};
 ghost use Rattle.attr_rules.specs.Accepted.{size_of};
 ghost use Rattle.attr_rules.specs.Rules as rules;
 ghost use Rattle.attr_rules.specs.Taken.{function_in};
@@ -12,8 +12,8 @@ use crate::function_rules::broken_functions;
 use crate::functions::{Functions, Taken};
 use crate::rows::Broken;
 use crate::type_rules::broken_type;
+use edl_grammar::{Gathered, SourceFile};
 use edl_layout::Layouts;
-use edl_parser::{Gathered, SourceFile};
 use sqlite_items::at;
 use std::alloc::{AllocError, Global};
 

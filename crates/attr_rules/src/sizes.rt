@@ -8,8 +8,8 @@ ghost use Rattle.attr_rules.specs.Sizing.{files_of, table_of};
 
 use crate::Plain;
 use crate::meanings::{Meanings, Meant};
+use edl_grammar::{Base, Tag, Written};
 use edl_layout::{Extent, Layouts};
-use edl_parser::{Base, Tag, Written};
 
 /// What tells the sizes of types: their meanings, and the layouts by name.
 #[derive(Clone, Copy, Drop)]

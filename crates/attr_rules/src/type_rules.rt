@@ -2,7 +2,7 @@
 
 ghost use Rattle.std.specs.Prelude.{◌≡◌, ℕ, List, IfOk, map, slice_get};
 ghost use Rattle.std.specs.List.{flat_map};
-ghost use Rattle.edl_parser.specs.declared.NameAt.{NameAt};
+ghost use Rattle.edl_grammar.specs.declared.NameAt.{NameAt};
 ghost use Rattle.edl_layout.specs.Meaning.{members_of as members_in};
 ghost use Rattle.attr_rules.specs.Breaches.{first_breach};
 ghost use Rattle.attr_rules.specs.Names.{TellsNames};
@@ -11,7 +11,7 @@ ghost use Rattle.attr_rules.specs.Rules as rules;
 use crate::meanings::name_of;
 use crate::names::{Names, declared_names, enumerator_names, token_of, type_names};
 use crate::rows::{Breach, Broken, broken_at, row};
-use edl_parser::{Declared, EdlFile, EnumValue, TypeDecl};
+use edl_grammar::{Declared, EdlFile, EnumValue, TypeDecl};
 use std::alloc::{AllocError, Global};
 
 /// Whether a dimension is empty or 0.

@@ -3,7 +3,7 @@ use Rattle.std.proofs.Common.{ℕ, ◌≡◌, ◌⊎◌, inl, inr, List, Option,
 use Rattle.sgx_base.specs.Counts.{Rose}
 use Rattle.sgx_base.specs.Stores.{Store}
 use Rattle.sgx_base.specs.declared.Fault.{Fault}
-use Rattle.edl_parser.specs.declared.Gathered.{Gathered}
+use Rattle.edl_grammar.specs.declared.Gathered.{Gathered}
 use Rattle.edl_interface.specs.declared.Interface.{Interface}
 use Rattle.attr_rules.specs.declared.RuleFault.{RuleFault}
 use Rattle.attr_rules.specs.declared.RuleFault.TheVariants as told

@@ -3,11 +3,11 @@ use Rattle.std.proofs.Common.{arith, ℕ, zero, suc, ◌≡◌, ◌⊎◌, inl, 
 use Rattle.std.specs.Prelude.{All, Contains}
 use Rattle.std.proofs.lemmas.List.Elements.{All-cons, All-nil, Contains-append_cases}
 use Rattle.edl_lexer.specs.declared.Token.{Token}
-use Rattle.edl_parser.specs.declared.EdlFile.{EdlFile}
-use Rattle.edl_parser.specs.declared.Gathered.{Gathered}
-use Rattle.edl_parser.specs.declared.SourceFile.{SourceFile}
-use Rattle.edl_parser.specs.declared.TypeDecl.{TypeDecl}
-use Rattle.edl_parser.specs.Files.{TypeIn, types_of}
+use Rattle.edl_grammar.specs.declared.EdlFile.{EdlFile}
+use Rattle.edl_grammar.specs.declared.Gathered.{Gathered}
+use Rattle.edl_grammar.specs.declared.SourceFile.{SourceFile}
+use Rattle.edl_grammar.specs.declared.TypeDecl.{TypeDecl}
+use Rattle.edl_grammar.specs.Files.{TypeIn, types_of}
 use Rattle.attr_rules.specs.ForRun.{AreForRun, AreInOneFile, IsRead as is_read}
 use Rattle.call_engine.specs.RootFile.{IsRead, alone, no_foreign}
 use Rattle.call_engine.proofs.ReadLaws.{read_tree}

@@ -5,20 +5,20 @@ use Rattle.std.proofs.lemmas.List.{map-append}
 use Rattle.std.proofs.lemmas.List.Elements.{All-nil, All-cons, All-append}
 use Prim.Native.String.{String}
 use Rattle.edl_lexer.specs.declared.Token.{Token}
-use Rattle.edl_parser.specs.declared.EdlFile.{EdlFile}
-use Rattle.edl_parser.specs.declared.NameAt.{NameAt}
-use Rattle.edl_parser.specs.declared.TypeDecl.{TypeDecl}
-use Rattle.edl_parser.specs.declared.FuncDecl.{FuncDecl}
-use Rattle.edl_parser.specs.declared.Declared.{Declared}
-use Rattle.edl_parser.specs.declared.Tag.{Tag}
-use Rattle.edl_parser.specs.declared.IncludePlace.{IncludePlace}
-use Rattle.edl_parser.specs.declared.phrases.Phrase.{Phrase}
-use Rattle.edl_parser.specs.Symbols.{Symbol, Lexed, symbols, symbols_from}
-use Rattle.edl_parser.specs.Production.{Production, Then}
-use Rattle.edl_parser.specs.Production as spell
-use Rattle.edl_parser.specs.Grammar.{both, all_of, function, enumeration_of, signed_base}
-use Rattle.edl_parser.specs.Grammar as grammar
-use Rattle.edl_parser.specs.Files.{token_of}
+use Rattle.edl_grammar.specs.declared.EdlFile.{EdlFile}
+use Rattle.edl_grammar.specs.declared.NameAt.{NameAt}
+use Rattle.edl_grammar.specs.declared.TypeDecl.{TypeDecl}
+use Rattle.edl_grammar.specs.declared.FuncDecl.{FuncDecl}
+use Rattle.edl_grammar.specs.declared.Declared.{Declared}
+use Rattle.edl_grammar.specs.declared.Tag.{Tag}
+use Rattle.edl_grammar.specs.declared.IncludePlace.{IncludePlace}
+use Rattle.edl_grammar.specs.declared.Phrase.{Phrase}
+use Rattle.edl_grammar.specs.Symbols.{Symbol, Lexed, symbols, symbols_from}
+use Rattle.edl_grammar.specs.Production.{Production, Then}
+use Rattle.edl_grammar.specs.Production as spell
+use Rattle.edl_grammar.specs.Grammar.{both, all_of, function, enumeration_of, signed_base}
+use Rattle.edl_grammar.specs.Grammar as grammar
+use Rattle.edl_grammar.specs.Files.{token_of}
 use Rattle.attr_rules.specs.ForRun.{HasSize, HasSizes, IsRead}
 
 -- ---- what holds of each value that a production spells

@@ -7,12 +7,12 @@ use Rattle.edl_lexer.specs.declared.Token.{Token}
 use Rattle.edl_lexer.specs.declared.LexFault.{LexFault}
 use Rattle.edl_lexer.specs.declared.LexFault.TheVariants as lexical
 use Rattle.edl_lexer.specs.Lexing.{lexing}
-use Rattle.edl_parser.specs.declared.EdlFile.{EdlFile}
-use Rattle.edl_parser.specs.declared.Import.{Import}
-use Rattle.edl_parser.specs.declared.ParseFault.{ParseFault}
-use Rattle.edl_parser.specs.declared.Gathered.{Gathered}
-use Rattle.edl_parser.specs.Files.{fault_by}
-use Rattle.edl_parser.specs.Sentence.{Parses}
+use Rattle.edl_grammar.specs.declared.EdlFile.{EdlFile}
+use Rattle.edl_grammar.specs.declared.Import.{Import}
+use Rattle.edl_grammar.specs.declared.ParseFault.{ParseFault}
+use Rattle.edl_grammar.specs.declared.Gathered.{Gathered}
+use Rattle.edl_grammar.specs.Files.{fault_by}
+use Rattle.edl_grammar.specs.Sentence.{Parses}
 use Rattle.edl_layout.specs.declared.NamedShape.{NamedShape}
 use Rattle.edl_layout.specs.declared.LayoutFault.{LayoutFault}
 use Rattle.edl_layout.specs.declared.LayoutFault.TheVariants as laid

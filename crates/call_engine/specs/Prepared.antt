@@ -3,7 +3,7 @@ use Rattle.std.specs.Prelude.{ℕ, ◌≡◌, ◌≤◌, ◌⊎◌, List, Option
 use Rattle.sgx_base.specs.Counts.{Rose}
 use Rattle.sgx_base.specs.Stores.{Store}
 use Rattle.sgx_base.specs.declared.Fault.{Fault}
-use Rattle.edl_parser.specs.declared.Gathered.{Gathered}
+use Rattle.edl_grammar.specs.declared.Gathered.{Gathered}
 use Rattle.edl_interface.specs.declared.Interface.{Interface}
 use Rattle.call_script.specs.declared.Script.{Script}
 use Rattle.script_form.specs.Form.{script_form}

@@ -4,8 +4,8 @@ ghost use Rattle.std.specs.Prelude.{◌≡◌, ◌≤◌, ◌<◌, ◌^◌, ℕ,
 ghost use Rattle.sgx_base.specs.Stores.{max_file_size};
 ghost use Rattle.edl_lexer.specs.Bounds.{LieIn};
 ghost use Rattle.edl_lexer.specs.Lexing.{lexing};
-ghost use Rattle.edl_parser.specs.Files.{fault_by};
-ghost use Rattle.edl_parser.specs.Sentence.{Parses};
+ghost use Rattle.edl_grammar.specs.Files.{fault_by};
+ghost use Rattle.edl_grammar.specs.Sentence.{Parses};
 ghost use Rattle.attr_rules.specs.Accepted.{checked};
 ghost use Rattle.attr_rules.specs.ForRun.{AreForRun};
 ghost use Rattle.edl_interface.specs.Sound.{IsSound};

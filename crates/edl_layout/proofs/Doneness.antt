@@ -3,9 +3,9 @@ use Rattle.std.proofs.Common.{◌≡◌, ◌<◌, ◌≤◌, ◌+◌, ℕ, zero,
 use Rattle.std.specs.Prelude.{filter_map, Contains, slice_get}
 use Rattle.std.specs.List.{cons_option}
 use Rattle.std.proofs.lemmas.Option.{none-some, same_Some}
-use Rattle.edl_parser.specs.declared.Gathered.{Gathered}
-use Rattle.edl_parser.specs.declared.Declared.{Declared}
-use Rattle.edl_parser.specs.Files.{TypeIn}
+use Rattle.edl_grammar.specs.declared.Gathered.{Gathered}
+use Rattle.edl_grammar.specs.declared.Declared.{Declared}
+use Rattle.edl_grammar.specs.Files.{TypeIn}
 use Rattle.edl_layout.specs.declared.ForeignTypes.{ForeignTypes}
 use Rattle.edl_layout.specs.Meaning.{meaning, held, held_by, members_of, Holds, HoldsItself}
 use Rattle.edl_layout.specs.Sizes.{Has, holds_of, IsShort, IsDone, AreDone}

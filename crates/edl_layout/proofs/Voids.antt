@@ -1,14 +1,14 @@
 -- What a type means, and which types are `void`.
 use Rattle.std.proofs.Common.{◌≡◌, ◌<◌, ◌≤◌, ℕ, zero, suc, Bool, true, false, List, length, get_or, find, min, refl, sym, ◌∙◌, ap, subst, Option, Some, None, option_map, eqb, arith}
 use Rattle.std.specs.Prelude.{slice_get, All, if◌then◌else◌, ◌&&◌, ◌||◌, not, nat_lt}
-use Rattle.edl_parser.specs.declared.Written.{Written}
+use Rattle.edl_grammar.specs.declared.Written.{Written}
 use Rattle.std.specs.Str.{bytes_eq}
 use Rattle.std.proofs.lemmas.Option.{none-some, same_Some, slice_get_within, get_or_from_slice_get}
 use Rattle.std.proofs.lemmas.Bool.Decides.{nat_tests}
-use Rattle.edl_parser.specs.declared.Gathered.{Gathered}
-use Rattle.edl_parser.specs.declared.Base.{Base}
-use Rattle.edl_parser.specs.declared.Base.TheVariants as base
-use Rattle.edl_parser.specs.Files.{TypeIn, types_of}
+use Rattle.edl_grammar.specs.declared.Gathered.{Gathered}
+use Rattle.edl_grammar.specs.declared.Base.{Base}
+use Rattle.edl_grammar.specs.declared.Base.TheVariants as base
+use Rattle.edl_grammar.specs.Files.{TypeIn, types_of}
 use Rattle.edl_layout.specs.declared.ForeignTypes.{ForeignTypes}
 use Rattle.edl_layout.specs.declared.sizes.TypeSize.{TypeSize}
 use Rattle.edl_layout.specs.declared.sizes.TypeSize.TheVariants as size

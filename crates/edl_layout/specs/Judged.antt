@@ -1,7 +1,7 @@
 -- What is told of the types one after another.
 use Rattle.std.specs.Prelude.{◌≡◌, ◌<◌, ℕ, Bool, true, false, nat_le, List, All, slice_get, Some}
-use Rattle.edl_parser.specs.declared.Gathered.{Gathered}
-use Rattle.edl_parser.specs.Files.{TypeIn, types_of}
+use Rattle.edl_grammar.specs.declared.Gathered.{Gathered}
+use Rattle.edl_grammar.specs.Files.{TypeIn, types_of}
 use Rattle.edl_layout.specs.declared.ForeignTypes.{ForeignTypes}
 use Rattle.edl_layout.specs.declared.LayoutFault.{LayoutFault}
 use Rattle.edl_layout.specs.declared.sizes.TypeSize.{TypeSize}

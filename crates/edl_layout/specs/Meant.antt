@@ -1,7 +1,7 @@
 -- What a written type means for the size of what has it.
 use Rattle.std.specs.Prelude.{◌≡◌, false}
-use Rattle.edl_parser.specs.declared.Gathered.{Gathered}
-use Rattle.edl_parser.specs.declared.Base.{Base}
+use Rattle.edl_grammar.specs.declared.Gathered.{Gathered}
+use Rattle.edl_grammar.specs.declared.Base.{Base}
 use Rattle.edl_layout.specs.declared.ForeignTypes.{ForeignTypes}
 use Rattle.edl_layout.specs.declared.types.Meant.{Meant}
 use Rattle.edl_layout.specs.declared.types.Meant.TheVariants as meant

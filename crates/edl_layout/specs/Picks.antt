@@ -1,8 +1,8 @@
 -- The functions that an interface takes, and what a check of things in order says.
 use Rattle.std.specs.Prelude.{◌≡◌, Bool, true, false, List, All, Option, MatchOption}
-use Rattle.edl_parser.specs.declared.Gathered.{Gathered}
-use Rattle.edl_parser.specs.declared.Pick.{Pick}
-use Rattle.edl_parser.specs.Files.{FunctionIn, trusted_pick, untrusted_pick}
+use Rattle.edl_grammar.specs.declared.Gathered.{Gathered}
+use Rattle.edl_grammar.specs.declared.Pick.{Pick}
+use Rattle.edl_grammar.specs.Files.{FunctionIn, trusted_pick, untrusted_pick}
 use Rattle.edl_layout.specs.declared.ForeignTypes.{ForeignTypes}
 use Rattle.edl_layout.specs.declared.LayoutFault.{LayoutFault}
 use Rattle.edl_layout.specs.Faults.{FaultAmong, is_unknown, IsCleanParam, IsCleanFunction, FunctionFault}

@@ -1,10 +1,10 @@
 -- The sizes of types, found one after another.
 use Rattle.std.specs.Prelude.{◌≡◌, ◌≤◌, ◌<◌, ℕ, ◌+◌, ◌*◌, ◌^◌, min, max, Bool, true, false, List, [], ◌∷◌, map, All, length, slice_get, cond, Option, Some, None}
 use Rattle.sgx_base.specs.Bytes.{round_up}
-use Rattle.edl_parser.specs.declared.Gathered.{Gathered}
-use Rattle.edl_parser.specs.declared.Declared.{Declared}
-use Rattle.edl_parser.specs.declared.Written.{Written}
-use Rattle.edl_parser.specs.Files.{TypeIn, types_of}
+use Rattle.edl_grammar.specs.declared.Gathered.{Gathered}
+use Rattle.edl_grammar.specs.declared.Declared.{Declared}
+use Rattle.edl_grammar.specs.declared.Written.{Written}
+use Rattle.edl_grammar.specs.Files.{TypeIn, types_of}
 use Rattle.edl_layout.specs.declared.ForeignTypes.{ForeignTypes}
 use Rattle.edl_layout.specs.declared.extents.Extent.{Extent}
 use Rattle.edl_layout.specs.declared.sizes.Fields.{Fields}

@@ -1,12 +1,12 @@
 //! Types that hold themselves.
 
 ghost use Rattle.std.specs.Prelude.{◌≡◌, ◌<◌, [], ◌∷◌, length, replicate, slice_get, IfOk, Some, false};
-ghost use Rattle.edl_parser.specs.Files.{types_of};
+ghost use Rattle.edl_grammar.specs.Files.{types_of};
 ghost use Rattle.edl_layout.specs.Named.{IsDeclarations};
 ghost use Rattle.edl_layout.specs.Walks.{HasGone, IsItself};
 
 use crate::tables::{Declarations, members_of};
-use edl_parser::Declared;
+use edl_grammar::Declared;
 use sqlite_items::Items;
 use std::alloc::{AllocError, Global};
 

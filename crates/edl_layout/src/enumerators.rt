@@ -4,7 +4,7 @@ ghost use Rattle.std.specs.Prelude.{◌≡◌, true, negsuc};
 ghost use Rattle.edl_layout.specs.Faults as faults;
 ghost use Rattle.edl_layout.specs.Firsts.{first_of};
 
-use edl_parser::{EnumValue, TypeDecl};
+use edl_grammar::{EnumValue, TypeDecl};
 
 /// The number with its sign.
 fn literal(negative: bool, number: u64) -> i128

@@ -1,7 +1,7 @@
 //! The faults of types.
 
 ghost use Rattle.std.specs.Prelude.{◌≡◌, ◌<◌, All, length, IfOk, OnOk, IfErr};
-ghost use Rattle.edl_parser.specs.Files.{types_of, token_of as token_of_decl};
+ghost use Rattle.edl_grammar.specs.Files.{types_of, token_of as token_of_decl};
 ghost use Rattle.edl_layout.specs.Faults as spec;
 ghost use Rattle.edl_layout.specs.Firsts.{first_of};
 ghost use Rattle.edl_layout.specs.Judged.{At, Below, IsApart, TellsItself, is_large as is_large_size};
@@ -14,7 +14,7 @@ use crate::enumerators::first_wide_value;
 use crate::places::fault_at;
 use crate::sizes::{TypeSize, size_at};
 use crate::tables::{Declarations, Target, members_of};
-use edl_parser::{Declared, TypeDecl, Written};
+use edl_grammar::{Declared, TypeDecl, Written};
 use std::alloc::{AllocError, Global};
 
 /// The codes of the faults.

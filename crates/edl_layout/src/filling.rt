@@ -2,7 +2,7 @@
 
 ghost use Rattle.std.specs.Prelude.{◌≡◌, ◌<◌, map, length, IfOk, None};
 ghost use Rattle.std.specs.Str.{bytes_eq};
-ghost use Rattle.edl_parser.specs.Files.{types_of};
+ghost use Rattle.edl_grammar.specs.Files.{types_of};
 ghost use Rattle.edl_layout.specs.Ends.{shape_at};
 ghost use Rattle.edl_layout.specs.Filled.{HasOffsets, Covers, CoversAt, CoversFirst, Grows};
 ghost use Rattle.edl_layout.specs.Meaning.{bare_meaning, is_named, standard_types, HasShape};

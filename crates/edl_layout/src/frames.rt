@@ -10,7 +10,7 @@ ghost use Rattle.edl_layout.specs.Pushed.{Pushes, known_of, IsElement, IsLengthT
 
 use crate::extents::{Extent, FieldEnds, array_size};
 use crate::types::{Meant, Types};
-use edl_parser::{Base, Declared, FuncDecl, Written};
+use edl_grammar::{Base, Declared, FuncDecl, Written};
 
 /// The largest size of a type and length of an array, in bytes.
 const MAX_SIZE: u64 = (1 << 31) - 1;

@@ -2,7 +2,7 @@
 
 ghost use Rattle.std.specs.Prelude.{◌≡◌, [], ◌∷◌, All, filter_map, MatchOption, OnOk, IfErr, option_map};
 ghost use Rattle.std.specs.Option.{option_copied};
-ghost use Rattle.edl_parser.specs.Files.{fault_in};
+ghost use Rattle.edl_grammar.specs.Files.{fault_in};
 ghost use Rattle.edl_layout.specs.Faults as faults;
 ghost use Rattle.edl_layout.specs.Picks.{pick_of, Checked, IsFrameFault, IsFunctionFault, AreCheckedFunctions};
 ghost use Rattle.edl_layout.specs.Pushed.{is_none_of, IsArrayTest};
@@ -11,7 +11,7 @@ use crate::LayoutFault;
 use crate::frames::{is_array, is_frame_too_large, is_too_long, is_void};
 use crate::places::fault_at;
 use crate::types::{Meant, Types};
-use edl_parser::{Declared, FuncDecl, Gathered, Pick, Written};
+use edl_grammar::{Declared, FuncDecl, Gathered, Pick, Written};
 
 /// The code of an unknown type.
 const UNKNOWN: u8 = 12;

@@ -24,7 +24,7 @@ mod types;
 use crate::filling::table_of;
 use crate::functions::check_functions;
 use crate::types::Types;
-use edl_parser::Gathered;
+use edl_grammar::Gathered;
 pub use extents::{Extent, FieldEnds, array_size, ends_of_fields};
 pub use layouts::Layouts;
 use sgx_base::{Fault, Name};

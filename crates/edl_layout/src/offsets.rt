@@ -12,7 +12,7 @@ ghost use Rattle.edl_layout.specs.Sizes.{HasShapes};
 use crate::extents::{Extent, FieldEnds, array_size};
 use crate::frames::extent_of;
 use crate::types::Types;
-use edl_parser::{Declared, TypeDecl};
+use edl_grammar::{Declared, TypeDecl};
 use sqlite_items::Items;
 use std::alloc::{AllocError, Global};
 

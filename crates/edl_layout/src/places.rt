@@ -2,10 +2,10 @@
 
 ghost use Rattle.std.specs.Prelude.{◌≡◌, slice_get, option_and_then};
 ghost use Rattle.std.specs.Option.{option_copied};
-ghost use Rattle.edl_parser.specs.Files.{fault_in};
+ghost use Rattle.edl_grammar.specs.Files.{fault_in};
 
+use edl_grammar::Gathered;
 use edl_lexer::Token;
-use edl_parser::Gathered;
 use sgx_base::Fault;
 
 fn token_at(gathered: &Gathered, file: u32, token: u32) -> Option<&Token>

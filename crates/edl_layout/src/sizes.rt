@@ -11,7 +11,7 @@ ghost use Rattle.edl_layout.specs.Sizes as spec;
 use crate::extents::{Extent, FieldEnds, array_size, round_up};
 use crate::orders::order_of;
 use crate::tables::{Declarations, Target};
-use edl_parser::{Declared, TypeDecl};
+use edl_grammar::{Declared, TypeDecl};
 use sqlite_items::Items;
 use std::alloc::{AllocError, Global};
 

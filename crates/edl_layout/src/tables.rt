@@ -3,14 +3,15 @@
 ghost use Rattle.std.specs.Prelude.{◌≡◌, ◌||◌, ◌<◌, ℕ, List, ◌++◌, map, find, length, slice_get, Some, None, option_map, IfOk};
 ghost use Rattle.std.specs.Option.{option_copied};
 ghost use Rattle.std.specs.Str.{bytes_eq};
-ghost use Rattle.edl_parser.specs.Files.{TypeIn, types_of};
+ghost use Rattle.edl_grammar.specs.declared.Tag.TheVariants as tag;
+ghost use Rattle.edl_grammar.specs.Files.{TypeIn, types_of};
 ghost use Rattle.edl_layout.specs.Meaning as spec;
 ghost use Rattle.edl_layout.specs.Named.{seen, is_under, is_name, first_from, Finds, IsDeclarations};
 ghost use Rattle.edl_layout.specs.Targets.{IsTarget, IsHeld, standard_size};
 
 use crate::extents::Extent;
 use crate::{ForeignType, ForeignTypes};
-use edl_parser::{Base, Declared, Gathered, Tag, TypeDecl, Written};
+use edl_grammar::{Base, Declared, Gathered, Tag, TypeDecl, Written};
 use indexmap::IndexMap;
 use std::alloc::{AllocError, Global};
 
@@ -120,6 +121,29 @@ fn first_types<'a>(
     Ok(table)
 }
 
+/// The numbers of the first types by name, behind each tag.
+#[derive(Drop)]
+struct Tagged<'a> {
+    enumerations: IndexMap<&'a [u8], usize>,
+    structures: IndexMap<&'a [u8], usize>,
+    unions: IndexMap<&'a [u8], usize>,
+}
+
+fn tagged_types<'a>(alloc: Global, types: &[TypeAt<'a>]) -> Result<Tagged<'a>, AllocError>
+    ensures enumerations { IfOk result (λ t. Finds (is_under (Some tag.Enum)) (map seen types.now) t.enumerations.entries) }
+    ensures structures { IfOk result (λ t. Finds (is_under (Some tag.Struct)) (map seen types.now) t.structures.entries) }
+    ensures unions { IfOk result (λ t. Finds (is_under (Some tag.Union)) (map seen types.now) t.unions.entries) }
+{
+    let enumerations = first_types(alloc, types, Some(Tag::Enum))?;
+    let structures = first_types(alloc, types, Some(Tag::Struct))?;
+    let unions = first_types(alloc, types, Some(Tag::Union))?;
+    Ok(Tagged {
+        enumerations,
+        structures,
+        unions,
+    })
+}
+
 /// The numbers of the first foreign types by name.
 fn first_foreign<'a>(
     alloc: Global,
@@ -182,18 +206,16 @@ impl<'a> Declarations<'a> {
     {
         let types = types_in(alloc, gathered)?;
         let bare = first_types(alloc, types.as_slice(), None)?;
-        let enumerations = first_types(alloc, types.as_slice(), Some(Tag::Enum))?;
-        let structures = first_types(alloc, types.as_slice(), Some(Tag::Struct))?;
-        let unions = first_types(alloc, types.as_slice(), Some(Tag::Union))?;
+        let tagged = tagged_types(alloc, types.as_slice())?;
         let foreign_names = first_foreign(alloc, foreign.types.as_slice())?;
         Ok(Declarations {
             gathered,
             foreign,
             types,
             bare,
-            enumerations,
-            structures,
-            unions,
+            enumerations: tagged.enumerations,
+            structures: tagged.structures,
+            unions: tagged.unions,
             foreign_names,
         })
     }

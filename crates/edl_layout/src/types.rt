@@ -2,13 +2,13 @@
 
 ghost use Rattle.std.specs.Prelude.{◌≡◌, ◌<◌, ℕ, List, All, find, length, slice_get, Some, option_map, IfOk, IfErr};
 ghost use Rattle.std.specs.Option.{option_copied};
-ghost use Rattle.edl_parser.specs.Files.{TypeIn, types_of};
+ghost use Rattle.edl_grammar.specs.Files.{TypeIn, types_of};
 ghost use Rattle.edl_layout.specs.Faults.{FaultAmong, IsCleanType, TypeFault};
 ghost use Rattle.edl_layout.specs.Filled.{IsExtent};
 ghost use Rattle.edl_layout.specs.Judged.{AreTypes, meant_by as meant_by_size};
 ghost use Rattle.edl_layout.specs.Meaning.{bare_meaning, is_named};
 ghost use Rattle.edl_layout.specs.Meant.{IsMeant};
-ghost use Rattle.edl_layout.specs.Named.{is_name};
+ghost use Rattle.edl_layout.specs.Named.{is_name, IsDeclarations};
 ghost use Rattle.edl_layout.specs.Pushed.{known_of};
 
 use crate::extents::Extent;
@@ -16,7 +16,7 @@ use crate::faults::check_types;
 use crate::sizes::{TypeSize, size_at, sizes_of};
 use crate::tables::{Declarations, Target};
 use crate::{ForeignType, ForeignTypes, LayoutFault};
-use edl_parser::{Base, Gathered, TypeDecl};
+use edl_grammar::{Base, Gathered, TypeDecl};
 use sqlite_items::Items;
 use std::alloc::Global;
 use std::marker::Model;
@@ -48,6 +48,17 @@ impl<'a> Model for Types<'a> {
     ghost invariant = { λ t. AreTypes t.tables t.sizes };
 }
 
+/// The sizes of the declared types, or the fault of the first one that has one.
+fn clean_sizes(alloc: Global, tables: &Declarations) -> Result<Items<TypeSize>, LayoutFault>
+    requires { IsDeclarations tables.now }
+    ensures types { IfOk result (AreTypes tables.now) }
+    ensures fault { IfErr result (λ e. (e ≡ LayoutFault.Memory → ⊥) → FaultAmong (IsCleanType tables.now.gathered.now tables.now.foreign.now) (TypeFault tables.now.gathered.now tables.now.foreign.now) (types_of tables.now.gathered.now) e) }
+{
+    let sizes = sizes_of(alloc, tables)?;
+    check_types(alloc, tables, sizes.as_slice())?;
+    Ok(sizes)
+}
+
 impl<'a> Types<'a> {
     /// The types, or the fault of the first one that has one.
     pub(crate) fn new(
@@ -60,8 +71,7 @@ impl<'a> Types<'a> {
         ensures fault { IfErr result (λ e. (e ≡ LayoutFault.Memory → ⊥) → FaultAmong (IsCleanType gathered.now foreign.now) (TypeFault gathered.now foreign.now) (types_of gathered.now) e) }
     {
         let tables = Declarations::new(alloc, gathered, foreign)?;
-        let sizes = sizes_of(alloc, &tables)?;
-        check_types(alloc, &tables, sizes.as_slice())?;
+        let sizes = clean_sizes(alloc, &tables)?;
         Ok(Types { tables, sizes })
     }
 

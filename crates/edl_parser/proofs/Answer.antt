@@ -2,13 +2,13 @@
 use Rattle.std.proofs.Common.{◌≡◌, ◌<◌, ℕ, List, [], ◌∷◌, length, refl, subst, arith, Result, Ok, Err}
 use Rattle.sgx_base.specs.Outcome.{Gives}
 use Rattle.edl_lexer.specs.declared.Token.{Token}
-use Rattle.edl_parser.specs.declared.EdlFile.{EdlFile}
-use Rattle.edl_parser.specs.declared.ParseFault.{ParseFault}
-use Rattle.edl_parser.specs.declared.ParseFault.TheVariants.{Expected, TooDeep, Memory}
-use Rattle.edl_parser.specs.Symbols.{Lexed}
-use Rattle.edl_parser.specs.Sentence.{Parses, least, deep_in}
-use Rattle.edl_parser.specs.Parser.{whole, unexpected, unless_deep, parsing}
-use Rattle.edl_parser.proofs.Theorem.{computed}
+use Rattle.edl_grammar.specs.declared.EdlFile.{EdlFile}
+use Rattle.edl_grammar.specs.declared.ParseFault.{ParseFault}
+use Rattle.edl_grammar.specs.declared.ParseFault.TheVariants.{Expected, TooDeep, Memory}
+use Rattle.edl_grammar.specs.Symbols.{Lexed}
+use Rattle.edl_grammar.specs.Sentence.{Parses, least, deep_in}
+use Rattle.edl_grammar.specs.Parser.{whole, unexpected, unless_deep, parsing}
+use Rattle.edl_grammar.proofs.Theorem.{computed}
 
 module _ (number : ℕ) (bytes : List ℕ) (tokens : List Token) where
   -- symbols are left

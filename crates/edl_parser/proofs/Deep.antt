@@ -6,9 +6,9 @@ use Rattle.std.proofs.lemmas.List.{map-append}
 use Rattle.std.specs.List.{flat_map}
 use Rattle.std.proofs.lemmas.Grind.{flat_map-append}
 use Rattle.std.proofs.Math.Seq.{take-suc}
-use Rattle.edl_parser.specs.Sentence.{least, is_deep, deep_among}
+use Rattle.edl_grammar.specs.Sentence.{least, is_deep, deep_among}
 use Rattle.edl_parser.specs.Depth.{earlier}
-use Rattle.edl_parser.specs.declared.Declared.{Declared}
+use Rattle.edl_grammar.specs.declared.Declared.{Declared}
 
 min_assoc : (a b c : ℕ) → min a (min b c) ≡ min (min a b) c
 min_assoc a b c = omega arith

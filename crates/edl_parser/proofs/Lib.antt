@@ -1,17 +1,4 @@
-pub mod Agrees
-pub mod Tokens
-pub mod Heads
-pub mod Types
-pub mod Productions
-pub mod Whole
-pub mod Many
-pub mod Tail
-pub mod Params
-pub mod Values
-pub mod Theorem
-pub mod Counting
 pub mod Sees
 pub mod Loops
-pub mod Shrinking
 pub mod Deep
 pub mod Answer

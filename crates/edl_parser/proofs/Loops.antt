@@ -1,12 +1,12 @@
 -- The loops of the parser: the stars of a type, and items that are joined into one file.
 use Rattle.std.proofs.Common.{arith, append_assoc, append-nil, ◌≡◌, ◌+◌, ℕ, suc, Bool, true, false, List, [], ◌∷◌, length, refl, sym, ◌∙◌, ap, Option, Some, None, Ok, Err}
-use Rattle.edl_parser.specs.declared.EdlFile.{EdlFile}
-use Rattle.edl_parser.specs.Symbols.{Symbol, Lexed}
-use Rattle.edl_parser.specs.Grammar.{nothing, both, all_of}
-use Rattle.edl_parser.specs.Parser.{Parser, Outcome, and_then, sees, with_front, is_mark}
-use Rattle.edl_parser.specs.Parser as parse
-use Rattle.edl_parser.proofs.Agrees.{ok_left}
-use Rattle.edl_parser.proofs.Many.{Shrinks, many_turn, many_done, many_stops}
+use Rattle.edl_grammar.specs.declared.EdlFile.{EdlFile}
+use Rattle.edl_grammar.specs.Symbols.{Symbol, Lexed}
+use Rattle.edl_grammar.specs.Grammar.{nothing, both, all_of}
+use Rattle.edl_grammar.specs.Parser.{Parser, Outcome, and_then, sees, with_front, is_mark}
+use Rattle.edl_grammar.specs.Parser as parse
+use Rattle.edl_grammar.proofs.Agrees.{ok_left}
+use Rattle.edl_grammar.proofs.Many.{Shrinks, many_turn, many_done, many_stops}
 
 -- ---- items
 

@@ -1,8 +1,8 @@
 -- Tests of the next symbol, by their parts.
 use Rattle.std.proofs.Common.{◌≡◌, List, [], ◌∷◌, refl}
 use Rattle.std.specs.Prelude.{◌||◌}
-use Rattle.edl_parser.specs.Symbols.{Lexed}
-use Rattle.edl_parser.specs.Parser.{sees, is_word, is_mark, is_name, is_int_word, is_sign, is_plain, is_named, begins_type, begins_trusted, begins_untrusted, begins_item}
+use Rattle.edl_grammar.specs.Symbols.{Lexed}
+use Rattle.edl_grammar.specs.Parser.{sees, is_word, is_mark, is_name, is_int_word, is_sign, is_plain, is_named, begins_type, begins_trusted, begins_untrusted, begins_item}
 
 pub sees_int : (ss : List Lexed) → sees is_int_word ss ≡ (sees (is_word "char") ss || sees (is_word "short") ss || sees (is_word "int") ss || sees (is_word "long") ss)
 sees_int [] = refl

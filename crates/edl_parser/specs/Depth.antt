@@ -1,6 +1,6 @@
 -- The lesser of two numbers that may be there.
 use Rattle.std.specs.Prelude.{ℕ, Option, Some, None}
-use Rattle.edl_parser.specs.Sentence.{least_of}
+use Rattle.edl_grammar.specs.Sentence.{least_of}
 
 abbrev pub earlier : Option ℕ → Option ℕ → Option ℕ
 earlier None m = m

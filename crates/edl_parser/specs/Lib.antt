@@ -1,9 +1,2 @@
-pub mod Symbols
-pub mod Production
-pub mod Grammar
-pub mod Sentence
-pub mod Files
-pub mod Parser
 pub mod Reads
 pub mod Depth
-pub mod Examples

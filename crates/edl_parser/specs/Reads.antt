@@ -1,7 +1,8 @@
 -- What a function that parses ensures.
-use Rattle.std.specs.Prelude.{◌≡◌, List, Result, Ok, Err}
-use Rattle.edl_parser.specs.Symbols.{Lexed}
-use Rattle.edl_parser.specs.Parser.{Outcome}
+use Rattle.std.specs.Prelude.{◌≡◌, ℕ, List, Result, Ok, Err}
+use Rattle.edl_grammar.specs.declared.Phrase.{Phrase}
+use Rattle.edl_grammar.specs.Symbols.{Lexed}
+use Rattle.edl_grammar.specs.Parser.{Outcome, Parser, ◌>>◌, ◌means◌, pure, mark, marked, said_as}
 use Rattle.edl_parser.specs.declared.cursor.Stop.{Stop}
 use Rattle.edl_parser.specs.declared.cursor.Stop.TheVariants.{Unexpected, Memory}
 
@@ -10,3 +11,15 @@ abbrev pub Reads : {A : Type 0} → Outcome A → Result A Stop → List Lexed �
 Reads outcome (Ok a) new = outcome ≡ Ok (a, new)
 Reads outcome (Err Unexpected) new = outcome ≡ Err new
 Reads outcome (Err Memory) new = Unit {0}
+
+-- the value, once the mark is taken
+abbrev pub then_mark : {A : Type 0} → A → ℕ → Parser A
+then_mark a byte = marked byte >> pure a
+
+-- the value, once `}` and `;` are taken
+abbrev pub closed : {A : Type 0} → A → Parser A
+closed a = mark "}" >> (mark ";" >> pure a)
+
+-- the word, which means this value
+abbrev pub said_meaning : {A : Type 0} → List ℕ → A → Parser (A × Phrase)
+said_meaning word a = said_as word means a

@@ -4,11 +4,11 @@ ghost use Rattle.std.specs.Prelude.{◌≡◌, ◌<◌, ◌^◌, length};
 ghost use Rattle.std.specs.List.{list_any};
 ghost use Rattle.std.specs.Str.{bytes_eq};
 ghost use Rattle.edl_lexer.specs.Bounds.{LieIn};
-ghost use Rattle.edl_parser.specs.Parser as parser;
-ghost use Rattle.edl_parser.specs.Reads.{Reads};
-ghost use Rattle.edl_parser.specs.Symbols.{symbols, is_reserved, file_words, type_words, number_words};
+ghost use Rattle.edl_grammar.specs.Parser as parser;
+ghost use Rattle.edl_parser.specs.Reads.{Reads, then_mark, closed};
+ghost use Rattle.edl_grammar.specs.Symbols.{symbols, is_reserved, file_words, type_words, number_words};
 
-use crate::NameAt;
+use edl_grammar::NameAt;
 use edl_lexer::{Token, TokenKind};
 use sgx_base::Name;
 use std::alloc::{AllocError, Global};
@@ -77,7 +77,7 @@ fn is_number_word(word: &[u8]) -> bool
 }
 
 /// Whether the word is none that may be a name.
-#[tactic(auto, using(crate::proofs::Counting::any_of_three))]
+#[tactic(auto, using(edl_grammar::proofs::Counting::any_of_three))]
 fn is_reserved_word(word: &[u8]) -> bool
     ensures { result ≡ is_reserved word.now }
 {
@@ -94,7 +94,7 @@ pub struct Cursor<'a> {
 
 impl<'a> Model for Cursor<'a> {
     ghost use Rattle.std.specs.Prelude.{List};
-    ghost use Rattle.edl_parser.specs.Symbols.{Lexed, symbols_from};
+    ghost use Rattle.edl_grammar.specs.Symbols.{Lexed, symbols_from};
     ghost use Rattle.edl_lexer.specs.Bounds.{LieIn};
 
     ghost Value = { List Lexed };
@@ -119,7 +119,7 @@ impl<'a> Cursor<'a> {
 
 impl Cursor<'_> {
     /// How many tokens are left.
-    #[tactic(auto, using(crate::proofs::Counting::length_symbols))]
+    #[tactic(auto, using(edl_grammar::proofs::Counting::length_symbols))]
     pub fn len(&self) -> usize
         ensures value { result ≡ length self.now }
         ensures small { result < 2 ^ 32 }
@@ -219,6 +219,22 @@ impl Cursor<'_> {
             }
             _ => Err(Stop::Unexpected),
         }
+    }
+
+    /// The value, once the mark is taken, if it comes next.
+    pub fn then_mark<T: Drop>(&mut self, value: T, mark: u8) -> Result<T, Stop>
+        ensures { Reads (then_mark value mark self.old) result self.new }
+    {
+        self.take_mark(mark)?;
+        Ok(value)
+    }
+
+    /// The value, once `}` and `;` are taken, if they come next.
+    pub fn closed<T: Drop>(&mut self, value: T) -> Result<T, Stop>
+        ensures { Reads (closed value self.old) result self.new }
+    {
+        self.take_mark(b'}')?;
+        self.then_mark(value, b';')
     }
 
     pub fn take_number(&mut self) -> Result<u64, Stop>

@@ -1,14 +1,33 @@
 //! Members, parameters and structures.
 
-ghost use Rattle.edl_parser.specs.Parser as parser;
+ghost use Rattle.std.specs.Prelude.{◌≡◌};
+ghost use Rattle.edl_grammar.specs.Parser as parser;
 ghost use Rattle.edl_parser.specs.Reads.{Reads};
-ghost use Rattle.edl_parser.specs.declared.Attribute.{Attribute};
-ghost use Rattle.edl_parser.specs.declared.Written.{Written};
+ghost use Rattle.edl_grammar.specs.declared.Attribute.{Attribute};
+ghost use Rattle.edl_grammar.specs.declared.Written.{Written};
 
 use crate::cursor::{Cursor, Stop};
-use crate::{AttrValue, Attribute, Declared, NameAt, TypeDecl, Written};
+use edl_grammar::{AttrValue, Attribute, Declared, NameAt, TypeDecl, Written};
 use sqlite_items::Items;
 use std::alloc::Global;
+
+/// The declaration of this name.
+fn declaration(
+    found: NameAt,
+    written: Written,
+    dims: Items<Option<u64>>,
+    attrs: Items<Attribute>,
+) -> Declared
+    ensures { result ≡ record { token = found.token; name = found.name; written = written; dims = dims; attrs = attrs } }
+{
+    Declared {
+        token: found.token,
+        name: found.name,
+        written,
+        dims,
+        attrs,
+    }
+}
 
 impl Cursor<'_> {
     fn maybe_number(&mut self) -> Result<Option<u64>, Stop>
@@ -52,15 +71,9 @@ impl Cursor<'_> {
     ) -> Result<Declared, Stop>
         ensures { Reads (parser.declared_as written attrs self.old) result self.new }
     {
-        let NameAt { token, name } = self.take_name(alloc)?;
+        let found = self.take_name(alloc)?;
         let dims = self.dims(alloc)?;
-        Ok(Declared {
-            token,
-            name,
-            written,
-            dims,
-            attrs,
-        })
+        Ok(declaration(found, written, dims, attrs))
     }
 
     pub fn declared(&mut self, alloc: Global, attrs: Items<Attribute>) -> Result<Declared, Stop>
@@ -95,7 +108,7 @@ impl Cursor<'_> {
         }
     }
 
-    #[tactic(auto, unfolding(crate::specs::Parser::attribute))]
+    #[tactic(auto, unfolding(edl_grammar::specs::Parser::attribute))]
     fn attribute(&mut self, alloc: Global) -> Result<Attribute, Stop>
         ensures { Reads (parser.attribute self.old) result self.new }
     {
@@ -126,15 +139,14 @@ impl Cursor<'_> {
     }
 
     /// Attributes in their brackets.
-    #[tactic(auto, unfolding(crate::specs::Parser::attributes))]
+    #[tactic(auto, unfolding(edl_grammar::specs::Parser::attributes))]
     pub fn attributes(&mut self, alloc: Global) -> Result<Items<Attribute>, Stop>
         ensures { Reads (parser.attributes self.old) result self.new }
     {
         self.take_mark(b'[')?;
         let first = self.attribute(alloc)?;
         let attributes = self.more_attributes(alloc, first)?;
-        self.take_mark(b']')?;
-        Ok(attributes)
+        self.then_mark(attributes, b']')
     }
 
     /// A member, which ends with `;`.
@@ -142,8 +154,7 @@ impl Cursor<'_> {
         ensures { Reads (parser.member self.old) result self.new }
     {
         let member = self.declared(alloc, Items::new(alloc))?;
-        self.take_mark(b';')?;
-        Ok(member)
+        self.then_mark(member, b';')
     }
 
     fn member_list(&mut self, alloc: Global) -> Result<Items<Declared>, Stop>
@@ -158,15 +169,13 @@ impl Cursor<'_> {
     }
 
     /// Members in their braces.
-    #[tactic(auto, unfolding(crate::specs::Parser::members))]
+    #[tactic(auto, unfolding(edl_grammar::specs::Parser::members))]
     fn members(&mut self, alloc: Global) -> Result<Items<Declared>, Stop>
         ensures { Reads (parser.members self.old) result self.new }
     {
         self.take_mark(b'{')?;
         let members = self.member_list(alloc)?;
-        self.take_mark(b'}')?;
-        self.take_mark(b';')?;
-        Ok(members)
+        self.closed(members)
     }
 
     pub fn structure(&mut self, alloc: Global) -> Result<TypeDecl, Stop>

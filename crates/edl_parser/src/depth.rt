@@ -3,9 +3,9 @@
 ghost use Rattle.std.specs.Prelude.{◌≡◌, [], ◌∷◌, nat_lt, map, filter};
 ghost use Rattle.std.specs.List.{flat_map};
 ghost use Rattle.edl_parser.specs.Depth.{earlier};
-ghost use Rattle.edl_parser.specs.Sentence as sentence;
+ghost use Rattle.edl_grammar.specs.Sentence as sentence;
 
-use crate::{Declared, EdlFile, FuncDecl, TypeDecl};
+use edl_grammar::{Declared, EdlFile, FuncDecl, TypeDecl};
 
 /// The most stars, or dimensions, that a declaration may have.
 const MAX_DEPTH: usize = 8;

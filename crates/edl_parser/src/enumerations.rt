@@ -1,21 +1,14 @@
 //! Enumerations.
 
 ghost use Rattle.std.specs.Prelude.{◌≡◌};
-ghost use Rattle.edl_parser.specs.Grammar as grammar;
-ghost use Rattle.edl_parser.specs.Parser as parser;
+ghost use Rattle.edl_grammar.specs.Grammar as grammar;
+ghost use Rattle.edl_grammar.specs.Parser as parser;
 ghost use Rattle.edl_parser.specs.Reads.{Reads};
 
 use crate::cursor::{Cursor, Stop};
-use crate::{EnumValue, NameAt, TypeDecl};
+use edl_grammar::{EnumValue, Literal, NameAt, TypeDecl};
 use sqlite_items::Items;
 use std::alloc::Global;
-
-/// A number with a sign or without.
-#[derive(Clone, Copy, Debug, PartialEq, Eq)]
-pub struct Literal {
-    pub negative: bool,
-    pub number: u64,
-}
 
 fn enumerator(found: NameAt, literal: Option<Literal>) -> EnumValue
     ensures { result ≡ grammar.enumerator found literal }
@@ -122,7 +115,7 @@ impl Cursor<'_> {
         }
     }
 
-    #[tactic(auto, unfolding(crate::specs::Parser::enumeration))]
+    #[tactic(auto, unfolding(edl_grammar::specs::Parser::enumeration))]
     pub fn enumeration(&mut self, alloc: Global) -> Result<TypeDecl, Stop>
         ensures { Reads (parser.enumeration self.old) result self.new }
     {
@@ -130,8 +123,6 @@ impl Cursor<'_> {
         let found = self.maybe_name(alloc)?;
         self.take_mark(b'{')?;
         let values = self.enum_values(alloc)?;
-        self.take_mark(b'}')?;
-        self.take_mark(b';')?;
-        Ok(enumeration_of(keyword, found, values))
+        self.closed(enumeration_of(keyword, found, values))
     }
 }

@@ -1,29 +1,14 @@
 //! Functions, with what stands around them.
 
 ghost use Rattle.std.specs.Prelude.{◌≡◌, IfOk};
-ghost use Rattle.edl_parser.specs.Grammar as grammar;
-ghost use Rattle.edl_parser.specs.Parser as parser;
+ghost use Rattle.edl_grammar.specs.Grammar as grammar;
+ghost use Rattle.edl_grammar.specs.Parser as parser;
 ghost use Rattle.edl_parser.specs.Reads.{Reads};
 
 use crate::cursor::{Cursor, Stop};
-use crate::{Attribute, Base, Declared, FuncDecl, NameAt, Written};
+use edl_grammar::{Attribute, Base, Declared, FuncDecl, Head, NameAt, Tail, Written};
 use sqlite_items::Items;
 use std::alloc::Global;
-
-/// A function without what stands around it.
-#[derive(Debug, Drop)]
-pub struct Head {
-    pub result: Written,
-    pub name: NameAt,
-    pub params: Items<Declared>,
-}
-
-/// What stands behind an untrusted function.
-#[derive(Debug, Drop)]
-pub struct Tail {
-    pub allow: Option<Items<NameAt>>,
-    pub switchless: bool,
-}
 
 pub fn function(head: Head, is_public: bool, tail: Tail) -> FuncDecl
     ensures { result ≡ grammar.function head is_public tail }
@@ -171,7 +156,7 @@ impl Cursor<'_> {
         self.more_params(alloc, first)
     }
 
-    #[tactic(auto, unfolding(crate::specs::Parser::params))]
+    #[tactic(auto, unfolding(edl_grammar::specs::Parser::params))]
     fn params(&mut self, alloc: Global) -> Result<Items<Declared>, Stop>
         ensures { Reads (parser.params self.old) result self.new }
     {
@@ -184,7 +169,7 @@ impl Cursor<'_> {
         }
     }
 
-    #[tactic(auto, unfolding(crate::specs::Parser::func))]
+    #[tactic(auto, unfolding(edl_grammar::specs::Parser::func))]
     pub fn func(&mut self, alloc: Global) -> Result<Head, Stop>
         ensures { Reads (parser.func self.old) result self.new }
     {
@@ -192,12 +177,12 @@ impl Cursor<'_> {
         let name = self.take_name(alloc)?;
         self.take_mark(b'(')?;
         let params = self.params(alloc)?;
-        self.take_mark(b')')?;
-        Ok(Head {
+        let head = Head {
             result: written,
             name,
             params,
-        })
+        };
+        self.then_mark(head, b')')
     }
 
     /// Whether `transition_using_threads` stood next.
@@ -218,15 +203,14 @@ impl Cursor<'_> {
         }
     }
 
-    #[tactic(auto, unfolding(crate::specs::Parser::allow))]
+    #[tactic(auto, unfolding(edl_grammar::specs::Parser::allow))]
     fn allow(&mut self, alloc: Global) -> Result<Items<NameAt>, Stop>
         ensures { Reads (parser.allow self.old) result self.new }
     {
         self.take_word(b"allow")?;
         self.take_mark(b'(')?;
         let names = self.maybe_names(alloc)?;
-        self.take_mark(b')')?;
-        Ok(list_of(alloc, names))
+        self.then_mark(list_of(alloc, names), b')')
     }
 
     fn maybe_allow(&mut self, alloc: Global) -> Result<Option<Items<NameAt>>, Stop>
@@ -262,7 +246,7 @@ impl Cursor<'_> {
         })
     }
 
-    #[tactic(auto, unfolding(crate::specs::Parser::tail))]
+    #[tactic(auto, unfolding(edl_grammar::specs::Parser::tail))]
     pub fn tail(&mut self, alloc: Global) -> Result<Tail, Stop>
         ensures { Reads (parser.tail self.old) result self.new }
     {

@@ -1,13 +1,13 @@
 //! Items and blocks, each read as a file that holds it alone.
 
 ghost use Rattle.std.specs.Prelude.{◌≡◌, IfOk, OnOk};
-ghost use Rattle.edl_parser.specs.Grammar as grammar;
-ghost use Rattle.edl_parser.specs.Parser as parser;
+ghost use Rattle.edl_grammar.specs.Grammar as grammar;
+ghost use Rattle.edl_grammar.specs.Parser as parser;
 ghost use Rattle.edl_parser.specs.Reads.{Reads};
 
 use crate::cursor::{Cursor, Stop};
-use crate::functions::{Tail, function};
-use crate::{EdlFile, FuncDecl, Import, Include, IncludePlace, NameAt, TypeDecl};
+use crate::functions::function;
+use edl_grammar::{EdlFile, FuncDecl, Import, Include, IncludePlace, NameAt, Tail, TypeDecl};
 use sqlite_items::Items;
 use std::alloc::{AllocError, Global};
 
@@ -105,8 +105,8 @@ impl Cursor<'_> {
         let NameAt { token, name: text } = self.take_text(alloc)?;
         self.take_word(b"import")?;
         let names = self.import_names(alloc)?;
-        self.take_mark(b';')?;
-        let file = import_item(alloc, Import { token, text, names })?;
+        let import = self.then_mark(Import { token, text, names }, b';')?;
+        let file = import_item(alloc, import)?;
         Ok(file)
     }
 
@@ -140,12 +140,12 @@ impl Cursor<'_> {
         let is_public = self.given_word(b"public")?;
         let head = self.func(alloc)?;
         let switchless = self.given_switchless()?;
-        self.take_mark(b';')?;
         let tail = Tail {
             allow: None,
             switchless,
         };
-        let file = trusted_as_item(alloc, function(head, is_public, tail))?;
+        let decl = self.then_mark(function(head, is_public, tail), b';')?;
+        let file = trusted_as_item(alloc, decl)?;
         Ok(file)
     }
 
@@ -175,12 +175,12 @@ impl Cursor<'_> {
         self.given_convention()?;
         let head = self.func(alloc)?;
         let tail = self.tail(alloc)?;
-        self.take_mark(b';')?;
-        let file = untrusted_as_item(alloc, function(head, false, tail))?;
+        let decl = self.then_mark(function(head, false, tail), b';')?;
+        let file = untrusted_as_item(alloc, decl)?;
         Ok(file)
     }
 
-    #[tactic(auto, unfolding(crate::specs::Parser::trusted_item))]
+    #[tactic(auto, unfolding(edl_grammar::specs::Parser::trusted_item))]
     fn trusted_item(&mut self, alloc: Global) -> Result<EdlFile, Stop>
         ensures { Reads (parser.trusted_item self.old) result self.new }
     {
@@ -191,7 +191,7 @@ impl Cursor<'_> {
         }
     }
 
-    #[tactic(auto, unfolding(crate::specs::Parser::untrusted_item))]
+    #[tactic(auto, unfolding(edl_grammar::specs::Parser::untrusted_item))]
     fn untrusted_item(&mut self, alloc: Global) -> Result<EdlFile, Stop>
         ensures { Reads (parser.untrusted_item self.old) result self.new }
     {
@@ -257,9 +257,7 @@ impl Cursor<'_> {
         self.take_word(b"trusted")?;
         self.take_mark(b'{')?;
         let file = self.trusted_items(alloc)?;
-        self.take_mark(b'}')?;
-        self.take_mark(b';')?;
-        Ok(file)
+        self.closed(file)
     }
 
     fn untrusted_block(&mut self, alloc: Global) -> Result<EdlFile, Stop>
@@ -268,9 +266,7 @@ impl Cursor<'_> {
         self.take_word(b"untrusted")?;
         self.take_mark(b'{')?;
         let file = self.untrusted_items(alloc)?;
-        self.take_mark(b'}')?;
-        self.take_mark(b';')?;
-        Ok(file)
+        self.closed(file)
     }
 
     fn block_item(&mut self, alloc: Global) -> Result<EdlFile, Stop>
@@ -297,7 +293,7 @@ impl Cursor<'_> {
         }
     }
 
-    #[tactic(auto, unfolding(crate::specs::Parser::item))]
+    #[tactic(auto, unfolding(edl_grammar::specs::Parser::item))]
     fn item(&mut self, alloc: Global) -> Result<EdlFile, Stop>
         ensures { Reads (parser.item self.old) result self.new }
     {
@@ -328,8 +324,6 @@ impl Cursor<'_> {
         self.take_word(b"enclave")?;
         self.take_mark(b'{')?;
         let file = self.items(alloc)?;
-        self.take_mark(b'}')?;
-        self.take_mark(b';')?;
-        Ok(file)
+        self.closed(file)
     }
 }

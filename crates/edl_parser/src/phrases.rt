@@ -1,22 +1,15 @@
 //! Types as they are written.
 
-ghost use Rattle.std.specs.Prelude.{◌≡◌, ◌++◌, IfOk};
-ghost use Rattle.edl_parser.specs.Grammar as grammar;
-ghost use Rattle.edl_parser.specs.Parser as parser;
-ghost use Rattle.edl_parser.specs.Reads.{Reads};
+ghost use Rattle.std.specs.Prelude.{◌≡◌, [], ◌∷◌, ◌++◌, IfOk};
+ghost use Rattle.edl_grammar.specs.Grammar as grammar;
+ghost use Rattle.edl_grammar.specs.Parser as parser;
+ghost use Rattle.edl_parser.specs.Reads.{Reads, said_meaning};
 
 use crate::cursor::{Cursor, Stop};
-use crate::{Base, Tag, Written};
+use edl_grammar::{Base, Phrase, Tag, Written};
 use sgx_base::Name;
 use sqlite_items::Items;
 use std::alloc::{AllocError, Global};
-
-/// Words in a row, and the token of the last.
-#[derive(Debug, Drop)]
-pub struct Phrase {
-    pub token: u32,
-    pub words: Items<Name>,
-}
 
 /// The first phrase, and the other behind it.
 fn joined(first: Phrase, other: Option<Phrase>) -> Result<Phrase, AllocError>
@@ -38,6 +31,24 @@ fn joined(first: Phrase, other: Option<Phrase>) -> Result<Phrase, AllocError>
     }
 }
 
+/// The word alone.
+fn one_word(alloc: Global, word: &[u8]) -> Result<Items<Name>, AllocError>
+    ensures { IfOk result (λ words. words ≡ word.now ∷ []) }
+{
+    let mut words = Items::new(alloc);
+    words.push(Name::new(alloc, word)?)?;
+    Ok(words)
+}
+
+/// A word, and the other behind it.
+fn two_words(alloc: Global, first: &[u8], second: &[u8]) -> Result<Items<Name>, AllocError>
+    ensures { IfOk result (λ words. words ≡ first.now ∷ second.now ∷ []) }
+{
+    let mut words = one_word(alloc, first)?;
+    words.push(Name::new(alloc, second)?)?;
+    Ok(words)
+}
+
 /// Adds the words of a phrase, where there is one.
 fn add_words(words: &mut Items<Name>, phrase: Option<Phrase>) -> Result<(), AllocError>
     ensures { IfOk result (λ _. words.new ≡ words.old ++ grammar.words_of phrase) }
@@ -48,15 +59,65 @@ fn add_words(words: &mut Items<Name>, phrase: Option<Phrase>) -> Result<(), Allo
     Ok(())
 }
 
+/// The words of the base, between those before and behind it.
+fn words_between(
+    alloc: Global,
+    before: Option<Phrase>,
+    words_of_base: Items<Name>,
+    after: Option<Phrase>,
+) -> Result<Items<Name>, AllocError>
+    ensures { IfOk result (λ words. words ≡ grammar.words_of before ++ words_of_base ++ grammar.words_of after) }
+{
+    let mut words = Items::new(alloc);
+    add_words(&mut words, before)?;
+    words.append(words_of_base)?;
+    add_words(&mut words, after)?;
+    Ok(words)
+}
+
+/// A type with the words `const` around its base.
+fn written_by(
+    alloc: Global,
+    before: Option<Phrase>,
+    base: Base,
+    phrase: Phrase,
+    after: Option<Phrase>,
+    stars: u32,
+) -> Result<Written, AllocError>
+    ensures { IfOk result (λ written. written ≡ parser.written_by before (base, phrase) after stars) }
+{
+    let is_const = before.is_some() || after.is_some();
+    let words = words_between(alloc, before, phrase.words, after)?;
+    Ok(Written {
+        token: phrase.token,
+        words,
+        base,
+        is_const,
+        stars,
+    })
+}
+
 impl Cursor<'_> {
     /// Takes the word.
     fn said(&mut self, alloc: Global, word: &[u8]) -> Result<Phrase, Stop>
         ensures { Reads (parser.said_as word.now self.old) result self.new }
     {
         let token = self.take_word(word)?;
-        let mut words = Items::new(alloc);
-        words.push(Name::new(alloc, word)?)?;
+        let words = one_word(alloc, word)?;
         Ok(Phrase { token, words })
+    }
+
+    /// Takes the word, which means this value.
+    fn meaning<T: Drop>(
+        &mut self,
+        alloc: Global,
+        word: &[u8],
+        value: T,
+    ) -> Result<(T, Phrase), Stop>
+        ensures { Reads (said_meaning word.now value self.old) result self.new }
+    {
+        let phrase = self.said(alloc, word)?;
+        Ok((value, phrase))
     }
 
     /// Takes the word, if it comes next.
@@ -98,18 +159,16 @@ impl Cursor<'_> {
     }
 
     /// An integer type without its sign, and its size.
-    #[tactic(auto, unfolding(crate::specs::Parser::int))]
+    #[tactic(auto, unfolding(edl_grammar::specs::Parser::int))]
     fn int(&mut self, alloc: Global) -> Result<(u32, Phrase), Stop>
         ensures { Reads (parser.int self.old) result self.new }
     {
         if self.sees_word(b"char") {
-            let phrase = self.said(alloc, b"char")?;
-            Ok((1, phrase))
+            self.meaning(alloc, b"char", 1)
         } else if self.sees_word(b"short") {
             self.short_int(alloc)
         } else if self.sees_word(b"int") {
-            let phrase = self.said(alloc, b"int")?;
-            Ok((4, phrase))
+            self.meaning(alloc, b"int", 4)
         } else {
             self.long_int(alloc)
         }
@@ -167,11 +226,9 @@ impl Cursor<'_> {
         ensures { Reads (parser.sign self.old) result self.new }
     {
         if self.sees_word(b"signed") {
-            let phrase = self.said(alloc, b"signed")?;
-            Ok((true, phrase))
+            self.meaning(alloc, b"signed", true)
         } else {
-            let phrase = self.said(alloc, b"unsigned")?;
-            Ok((false, phrase))
+            self.meaning(alloc, b"unsigned", false)
         }
     }
 
@@ -211,8 +268,7 @@ impl Cursor<'_> {
         ensures { Reads (parser.bare self.old) result self.new }
     {
         let found = self.take_name(alloc)?;
-        let mut words = Items::new(alloc);
-        words.push(Name::new(alloc, found.name.bytes())?)?;
+        let words = one_word(alloc, found.name.bytes())?;
         let phrase = Phrase {
             token: found.token,
             words,
@@ -225,9 +281,7 @@ impl Cursor<'_> {
     {
         self.take_word(word)?;
         let found = self.take_name(alloc)?;
-        let mut words = Items::new(alloc);
-        words.push(Name::new(alloc, word)?)?;
-        words.push(Name::new(alloc, found.name.bytes())?)?;
+        let words = two_words(alloc, word, found.name.bytes())?;
         let phrase = Phrase {
             token: found.token,
             words,
@@ -266,19 +320,16 @@ impl Cursor<'_> {
         }
     }
 
-    #[tactic(auto, unfolding(crate::specs::Parser::base_type))]
+    #[tactic(auto, unfolding(edl_grammar::specs::Parser::base_type))]
     fn base_type(&mut self, alloc: Global) -> Result<(Base, Phrase), Stop>
         ensures { Reads (parser.base_type self.old) result self.new }
     {
         if self.sees_word(b"void") {
-            let phrase = self.said(alloc, b"void")?;
-            Ok((Base::Void, phrase))
+            self.meaning(alloc, b"void", Base::Void)
         } else if self.sees_word(b"float") {
-            let phrase = self.said(alloc, b"float")?;
-            Ok((Base::Float, phrase))
+            self.meaning(alloc, b"float", Base::Float)
         } else if self.sees_word(b"double") {
-            let phrase = self.said(alloc, b"double")?;
-            Ok((Base::Double, phrase))
+            self.meaning(alloc, b"double", Base::Double)
         } else {
             self.other_base(alloc)
         }
@@ -295,7 +346,7 @@ impl Cursor<'_> {
         Ok((before - self.len()) as u32)
     }
 
-    #[tactic(auto, unfolding(crate::specs::Parser::written))]
+    #[tactic(auto, unfolding(edl_grammar::specs::Parser::written))]
     pub fn written(&mut self, alloc: Global) -> Result<Written, Stop>
         ensures { Reads (parser.written self.old) result self.new }
     {
@@ -303,17 +354,7 @@ impl Cursor<'_> {
         let (base, phrase) = self.base_type(alloc)?;
         let after = self.maybe_said(alloc, b"const")?;
         let stars = self.stars()?;
-        let is_const = before.is_some() || after.is_some();
-        let mut words = Items::new(alloc);
-        add_words(&mut words, before)?;
-        words.append(phrase.words)?;
-        add_words(&mut words, after)?;
-        Ok(Written {
-            token: phrase.token,
-            words,
-            base,
-            is_const,
-            stars,
-        })
+        let written = written_by(alloc, before, base, phrase, after, stars)?;
+        Ok(written)
     }
 }

@@ -3,7 +3,7 @@
 ghost use Rattle.std.specs.Prelude.{◌≡◌, ◌+◌, ◌<◌, ◌≤◌, ◌^◌, ℕ, length};
 ghost use Rattle.sgx_base.specs.Stores.{max_file_size};
 ghost use Rattle.edl_lexer.specs.Lexing as lexing;
-ghost use Rattle.edl_parser.specs.Sentence as sentence;
+ghost use Rattle.edl_grammar.specs.Sentence as sentence;
 
 use edl_lexer::Token;
 use sgx_base::Fault;

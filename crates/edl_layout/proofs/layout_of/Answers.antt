@@ -1,7 +1,7 @@
 use Rattle.std.proofs.Common.{◌≡◌, inr, subst}
 use Rattle.std.specs.Prelude.{All, IfOk, IfErr}
 use Rattle.std.proofs.lemmas.Result.{IfErr-weaker, IfOk-weaker}
-use Rattle.edl_parser.specs.declared.Gathered.{Gathered}
+use Rattle.edl_grammar.specs.declared.Gathered.{Gathered}
 use Rattle.edl_layout.specs.declared.ForeignTypes.{ForeignTypes}
 use Rattle.edl_layout.specs.declared.LayoutFault.{LayoutFault}
 use Rattle.edl_layout.specs.declared.LayoutFault.TheVariants.{Memory}

@@ -1,6 +1,6 @@
 use Rattle.std.proofs.Common.{◌≡◌, ◌∙◌, sym, ap, subst, not, ◌&&◌, nat_lt, Option, Some, None, ℕ, List, [], ◌∷◌, ◌++◌, map, Bool, get_or}
 use Rattle.std.specs.Prelude.{if◌then◌else◌, option_map}
-use Rattle.edl_parser.specs.Files.{FunctionIn, trusted_of, untrusted_of}
+use Rattle.edl_grammar.specs.Files.{FunctionIn, trusted_of, untrusted_of}
 use Rattle.attr_rules.specs.Accepted.{size_of}
 use Rattle.attr_rules.specs.Taken.{function_in, TellEach}
 use Rattle.attr_rules.specs.declared.functions.Taken.{Taken}

@@ -1,9 +1,9 @@
 use Rattle.std.proofs.Common.{◌≡◌, ◌∙◌, sym, ap, subst, not, ◌&&◌, nat_lt, Option, Some, None, ℕ, List, [], ◌∷◌, ◌++◌, map, Bool, get_or}
 use Rattle.std.specs.Prelude.{if◌then◌else◌, option_map}
-use Rattle.edl_parser.specs.declared.NameAt.{NameAt}
+use Rattle.edl_grammar.specs.declared.NameAt.{NameAt}
 use Rattle.std.specs.List.{list_any}
 use Rattle.std.specs.Str.{bytes_eq}
-use Rattle.edl_parser.specs.Files.{FunctionIn, trusted_of}
+use Rattle.edl_grammar.specs.Files.{FunctionIn, trusted_of}
 use Rattle.attr_rules.proofs.Firsts.{first_in, first_found, first_more, first_none, head-filter}
 use Rattle.attr_rules.proofs.function_rules.unknown_among.Goals as goal
 

@@ -2,7 +2,7 @@ use Rattle.std.proofs.Common.{◌≡◌, Some, None, take, not}
 use Rattle.std.specs.Prelude.{if◌then◌else◌}
 use Rattle.std.specs.List.{list_any}
 use Rattle.std.specs.Str.{bytes_eq}
-use Rattle.edl_parser.specs.Files.{trusted_of}
+use Rattle.edl_grammar.specs.Files.{trusted_of}
 use Rattle.attr_rules.proofs.Firsts.{first_in}
 use Rattle.attr_rules.proofs.function_rules.unknown_among.Given as goal
 

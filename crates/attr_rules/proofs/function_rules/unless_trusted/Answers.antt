@@ -2,7 +2,7 @@ use Rattle.std.proofs.Common.{◌≡◌, ◌∙◌, sym, ap, subst, not, ◌&&�
 use Rattle.std.specs.Prelude.{if◌then◌else◌, option_map}
 use Rattle.std.specs.Prelude.{position, is_some}
 use Rattle.std.specs.Str.{bytes_eq}
-use Rattle.edl_parser.specs.Files.{FunctionIn, trusted_of}
+use Rattle.edl_grammar.specs.Files.{FunctionIn, trusted_of}
 use Rattle.attr_rules.proofs.PlaceLaws.{is_some-position}
 use Rattle.attr_rules.proofs.function_rules.unless_trusted.Goals as goal
 

@@ -1,10 +1,10 @@
 use Rattle.std.proofs.Common.{◌≡◌, ◌∙◌, sym, ap, subst, not, ◌&&◌, nat_lt, Option, Some, None, ℕ, List, [], ◌∷◌, ◌++◌, map, Bool, get_or}
 use Rattle.std.specs.Prelude.{if◌then◌else◌, option_map}
-use Rattle.edl_parser.specs.declared.Pick.{Pick}
+use Rattle.edl_grammar.specs.declared.Pick.{Pick}
 use Rattle.std.proofs.Common.{take}
 use Rattle.std.specs.Prelude.{filter_map}
 use Rattle.std.specs.Option.{option_to_list}
-use Rattle.edl_parser.specs.Files.{FunctionIn}
+use Rattle.edl_grammar.specs.Files.{FunctionIn}
 use Rattle.attr_rules.specs.Taken.{function_in, picked}
 use Rattle.attr_rules.proofs.NameLaws.{filter_more}
 use Rattle.attr_rules.proofs.functions.functions_of.Goals as goal

@@ -1,6 +1,6 @@
 use Rattle.std.proofs.Common.{◌≡◌, ◌∙◌, sym, ap, subst, not, ◌&&◌, nat_lt, Option, Some, None, ℕ, List, [], ◌∷◌, ◌++◌, map, Bool, get_or}
 use Rattle.std.specs.Prelude.{if◌then◌else◌, option_map}
-use Rattle.edl_parser.specs.declared.SourceFile.{SourceFile}
+use Rattle.edl_grammar.specs.declared.SourceFile.{SourceFile}
 use Rattle.std.specs.Prelude.{fold}
 use Rattle.attr_rules.specs.declared.meanings.Kinds.{Kinds}
 use Rattle.attr_rules.specs.Kinds as kinds

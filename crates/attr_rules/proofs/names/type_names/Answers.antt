@@ -1,7 +1,7 @@
 use Rattle.std.proofs.Common.{◌∙◌, sym, ap, subst, take, ◌++◌}
 use Rattle.std.specs.Prelude.{filter_map}
 use Rattle.std.specs.Option.{option_to_list}
-use Rattle.edl_parser.specs.declared.TypeDecl.{TypeDecl}
+use Rattle.edl_grammar.specs.declared.TypeDecl.{TypeDecl}
 use Rattle.attr_rules.specs.Names.{TellsNames}
 use Rattle.attr_rules.specs.Rules as rules
 use Rattle.attr_rules.proofs.NameLaws.{filter_more}

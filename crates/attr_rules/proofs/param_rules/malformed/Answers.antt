@@ -1,6 +1,6 @@
 use Rattle.std.proofs.Common.{◌≡◌, ◌∙◌, sym, ap, subst, not, ◌&&◌, nat_lt, Option, Some, None, ℕ, List, [], ◌∷◌, ◌++◌, map, Bool, get_or}
 use Rattle.std.specs.Prelude.{if◌then◌else◌, option_map}
-use Rattle.edl_parser.specs.declared.Attribute.{Attribute}
+use Rattle.edl_grammar.specs.declared.Attribute.{Attribute}
 use Rattle.attr_rules.specs.Attributes.{is_well_formed}
 use Rattle.attr_rules.proofs.Firsts.{first_in, first_found, first_more, first_none, head-filter}
 use Rattle.attr_rules.proofs.param_rules.malformed.Goals as goal

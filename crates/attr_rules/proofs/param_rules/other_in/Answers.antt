@@ -1,7 +1,7 @@
 use Rattle.std.proofs.Common.{◌≡◌, ◌∙◌, sym, ap, subst, not, ◌&&◌, nat_lt, Option, Some, None, ℕ, List, [], ◌∷◌, ◌++◌, map, Bool, get_or}
 use Rattle.std.specs.Prelude.{if◌then◌else◌, option_map}
-use Rattle.edl_parser.specs.declared.Declared.{Declared}
-use Rattle.edl_parser.specs.declared.NameAt.{NameAt}
+use Rattle.edl_grammar.specs.declared.Declared.{Declared}
+use Rattle.edl_grammar.specs.declared.NameAt.{NameAt}
 use Rattle.std.specs.Prelude.{option_and_then}
 use Rattle.attr_rules.specs.Rules.{not_integer, first_named}
 use Rattle.attr_rules.proofs.param_rules.other_in.Goals as goal

@@ -1,6 +1,6 @@
 use Rattle.std.proofs.Common.{◌≡◌, ◌∙◌, sym, ap, subst, not, ◌&&◌, nat_lt, Option, Some, None, ℕ, List, [], ◌∷◌, ◌++◌, map, Bool, get_or}
 use Rattle.std.specs.Prelude.{if◌then◌else◌, option_map}
-use Rattle.edl_parser.specs.declared.Declared.{Declared}
+use Rattle.edl_grammar.specs.declared.Declared.{Declared}
 use Rattle.attr_rules.specs.Breaches.{first_breach, in_file}
 use Rattle.attr_rules.specs.Rules as rules
 use Rattle.attr_rules.specs.Breaches.{breach_of}

@@ -1,6 +1,6 @@
 use Rattle.std.proofs.Common.{◌≡◌, ◌∙◌, sym, ap, subst, not, ◌&&◌, nat_lt, Option, Some, None, ℕ, List, [], ◌∷◌, ◌++◌, map, Bool, get_or}
 use Rattle.std.specs.Prelude.{if◌then◌else◌, option_map}
-use Rattle.edl_parser.specs.declared.SourceFile.{SourceFile}
+use Rattle.edl_grammar.specs.declared.SourceFile.{SourceFile}
 use Rattle.attr_rules.proofs.TypeLaws.{first_file, in_file_types, file_found, file_more, all_types}
 use Rattle.attr_rules.proofs.Firsts.{head, take_whole}
 use Rattle.attr_rules.proofs.rules.broken_types.Goals as goal

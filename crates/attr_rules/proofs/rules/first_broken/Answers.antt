@@ -1,6 +1,6 @@
 use Rattle.std.proofs.Common.{◌≡◌, ◌∙◌, sym, ap, subst, not, ◌&&◌, nat_lt, Option, Some, None, ℕ, List, [], ◌∷◌, ◌++◌, map, Bool, get_or}
 use Rattle.std.specs.Prelude.{if◌then◌else◌, option_map}
-use Rattle.edl_parser.specs.Files.{FunctionIn, trusted_of, untrusted_of}
+use Rattle.edl_grammar.specs.Files.{FunctionIn, trusted_of, untrusted_of}
 use Rattle.attr_rules.specs.Accepted.{size_of}
 use Rattle.attr_rules.specs.Taken.{function_in, TellEach}
 use Rattle.attr_rules.specs.declared.functions.Taken.{Taken}
@@ -9,8 +9,8 @@ use Rattle.attr_rules.specs.Breaches.{first_breach, in_file}
 use Rattle.attr_rules.specs.Rules as rules
 use Rattle.std.proofs.Common.{append_assoc}
 use Rattle.std.specs.Option.{option_or}
-use Rattle.edl_parser.specs.declared.Gathered.{Gathered}
-use Rattle.edl_parser.specs.Files.{TypeIn, types_of}
+use Rattle.edl_grammar.specs.declared.Gathered.{Gathered}
+use Rattle.edl_grammar.specs.Files.{TypeIn, types_of}
 use Rattle.attr_rules.proofs.Firsts.{head, head-front, head-rest, head-append, or_cong}
 use Rattle.attr_rules.proofs.rules.first_broken.Goals as goal
 

@@ -1,13 +1,13 @@
 use Rattle.std.proofs.Common.{◌≡◌, ◌∙◌, sym, ap, subst, not, ◌&&◌, nat_lt, Option, Some, None, ℕ, List, [], ◌∷◌, ◌++◌, map, Bool, get_or}
 use Rattle.std.specs.Prelude.{if◌then◌else◌, option_map}
-use Rattle.edl_parser.specs.declared.NameAt.{NameAt}
+use Rattle.edl_grammar.specs.declared.NameAt.{NameAt}
 use Rattle.attr_rules.specs.Breaches.{first_breach, in_file}
 use Rattle.attr_rules.specs.Rules as rules
 use Rattle.std.specs.List.{flat_map}
 use Rattle.std.specs.Option.{option_or}
-use Rattle.edl_parser.specs.declared.Declared.{Declared}
-use Rattle.edl_parser.specs.declared.EnumValue.{EnumValue}
-use Rattle.edl_parser.specs.Files.{token_of}
+use Rattle.edl_grammar.specs.declared.Declared.{Declared}
+use Rattle.edl_grammar.specs.declared.EnumValue.{EnumValue}
+use Rattle.edl_grammar.specs.Files.{token_of}
 use Rattle.edl_layout.specs.Meaning.{members_of}
 use Rattle.attr_rules.specs.Breaches.{breach_of}
 use Rattle.attr_rules.proofs.Firsts.{breach-front, breach-rest, breach-append}

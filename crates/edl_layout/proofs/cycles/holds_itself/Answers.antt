@@ -1,8 +1,8 @@
 use Rattle.std.proofs.Common.{◌≡◌, ◌<◌, List, Bool, length, refl, sym, ◌∙◌, ap, subst, Some, arith}
 use Rattle.std.specs.Prelude.{slice_get, false}
 use Rattle.std.proofs.lemmas.List.{length-replicate}
-use Rattle.edl_parser.specs.declared.Declared.{Declared}
-use Rattle.edl_parser.specs.Files.{types_of}
+use Rattle.edl_grammar.specs.declared.Declared.{Declared}
+use Rattle.edl_grammar.specs.Files.{types_of}
 use Rattle.edl_layout.specs.declared.cycles.Walk.{Walk}
 use Rattle.edl_layout.specs.Meaning.{members_of}
 use Rattle.edl_layout.specs.Sizes.{Has}

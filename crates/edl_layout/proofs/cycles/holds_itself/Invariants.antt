@@ -1,6 +1,6 @@
 use Rattle.std.proofs.Common.{◌≡◌}
 use Rattle.std.specs.Prelude.{slice_get, Some}
-use Rattle.edl_parser.specs.Files.{TypeIn, types_of}
+use Rattle.edl_grammar.specs.Files.{TypeIn, types_of}
 use Rattle.edl_layout.specs.Meaning.{members_of}
 use Rattle.edl_layout.specs.Walks.{IsWalk, to_do}
 use Rattle.edl_layout.proofs.cycles.holds_itself.Given as goal

@@ -1,5 +1,5 @@
 use Rattle.std.proofs.Common.{List, sym, ◌∙◌, ap, subst}
-use Rattle.edl_parser.specs.declared.Declared.{Declared}
+use Rattle.edl_grammar.specs.declared.Declared.{Declared}
 use Rattle.edl_layout.specs.Faults.{unknown_among}
 use Rattle.edl_layout.specs.Firsts.{first_of}
 use Rattle.edl_layout.specs.Judged.{TellsItself}

@@ -1,6 +1,6 @@
 use Rattle.std.proofs.Common.{◌<◌, ◌≤◌, length, arith}
 use Rattle.std.proofs.lemmas.Result.{err_from_is_err_and}
-use Rattle.edl_parser.specs.Files.{types_of}
+use Rattle.edl_grammar.specs.Files.{types_of}
 use Rattle.edl_layout.proofs.Judging.{first_fault, clean_more, all_clean}
 use Rattle.edl_layout.proofs.faults.check_types.Goals as goal
 

@@ -1,5 +1,5 @@
 use Rattle.std.proofs.Common.{◌≤◌, length, arith}
-use Rattle.edl_parser.specs.Files.{types_of}
+use Rattle.edl_grammar.specs.Files.{types_of}
 use Rattle.edl_layout.specs.Meaning.{is_named}
 use Rattle.edl_layout.proofs.Covering.{grows_same, grows_on, covers_none, covers_next, covers_all}
 use Rattle.edl_layout.proofs.filling.add_declared.Goals as goal

@@ -1,4 +1,4 @@
-use Rattle.edl_parser.specs.Files.{types_of}
+use Rattle.edl_grammar.specs.Files.{types_of}
 use Rattle.edl_layout.specs.Filled.{Grows, CoversFirst}
 use Rattle.edl_layout.specs.Meaning.{is_named}
 use Rattle.edl_layout.proofs.filling.add_declared.Given as goal

@@ -1,6 +1,6 @@
 use Rattle.std.proofs.Common.{Some, None, ◌∙◌, ap, subst, sym}
 use Rattle.std.proofs.lemmas.Result.{IfOk-weaker}
-use Rattle.edl_parser.specs.Files.{types_of}
+use Rattle.edl_grammar.specs.Files.{types_of}
 use Rattle.edl_layout.specs.Filled.{Covers, CoversAt}
 use Rattle.edl_layout.specs.Meaning.{is_named}
 use Rattle.edl_layout.specs.Named.{is_name}

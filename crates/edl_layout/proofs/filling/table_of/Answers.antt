@@ -1,6 +1,6 @@
 use Rattle.std.proofs.Common.{List, length, sym, subst}
 use Rattle.std.specs.Str.{bytes_eq}
-use Rattle.edl_parser.specs.Files.{types_of}
+use Rattle.edl_grammar.specs.Files.{types_of}
 use Rattle.edl_layout.specs.declared.NamedShape.{NamedShape}
 use Rattle.edl_layout.specs.Filled.{IsSound}
 use Rattle.edl_layout.specs.Meaning.{Standard, is_named, standard_types}

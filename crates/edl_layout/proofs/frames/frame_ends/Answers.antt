@@ -1,6 +1,6 @@
 use Rattle.std.proofs.Common.{[], List, Option, subst}
 use Rattle.std.specs.Prelude.{flat_map}
-use Rattle.edl_parser.specs.declared.Declared.{Declared}
+use Rattle.edl_grammar.specs.declared.Declared.{Declared}
 use Rattle.edl_layout.specs.declared.extents.FieldEnds.{FieldEnds}
 use Rattle.edl_layout.specs.Ends.{ends_of}
 use Rattle.edl_layout.specs.Frame.{plain_shape, result_fields, param_fields}

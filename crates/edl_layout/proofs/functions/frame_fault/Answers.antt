@@ -1,5 +1,5 @@
 use Rattle.std.proofs.Common.{Bool, sym, subst}
-use Rattle.edl_parser.specs.Files.{FunctionIn}
+use Rattle.edl_grammar.specs.Files.{FunctionIn}
 use Rattle.edl_layout.specs.declared.LayoutFault.{LayoutFault}
 use Rattle.edl_layout.specs.Faults.{FunctionFault, frame}
 use Rattle.edl_layout.specs.Pushed.{IsFrameTest}

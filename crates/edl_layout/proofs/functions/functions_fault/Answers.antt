@@ -1,8 +1,8 @@
 use Rattle.std.proofs.Common.{◌≡◌, List, true, false, Option, Some, None, ◌∙◌, ap, subst}
 use Rattle.std.specs.Prelude.{filter_map}
-use Rattle.edl_parser.specs.declared.Gathered.{Gathered}
-use Rattle.edl_parser.specs.declared.Pick.{Pick}
-use Rattle.edl_parser.specs.Files.{trusted_of, untrusted_of}
+use Rattle.edl_grammar.specs.declared.Gathered.{Gathered}
+use Rattle.edl_grammar.specs.declared.Pick.{Pick}
+use Rattle.edl_grammar.specs.Files.{trusted_of, untrusted_of}
 use Rattle.edl_layout.specs.declared.LayoutFault.{LayoutFault}
 use Rattle.edl_layout.specs.Faults.{IsCleanFunction, FunctionFault}
 use Rattle.edl_layout.specs.Picks.{pick_of, AreCheckedFunctions}

@@ -1,6 +1,6 @@
 use Rattle.std.proofs.Common.{[], ◌∷◌, get_or, Option, None, refl, subst}
 use Rattle.std.specs.Prelude.{filter_map}
-use Rattle.edl_parser.specs.declared.Pick.{Pick}
+use Rattle.edl_grammar.specs.declared.Pick.{Pick}
 use Rattle.edl_layout.specs.declared.LayoutFault.{LayoutFault}
 use Rattle.edl_layout.specs.Faults.{IsCleanFunction, FunctionFault}
 use Rattle.edl_layout.specs.Picks.{pick_of, AreCheckedFunctions}

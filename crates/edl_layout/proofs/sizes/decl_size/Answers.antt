@@ -1,5 +1,5 @@
 use Rattle.std.proofs.Common.{List, subst}
-use Rattle.edl_parser.specs.declared.Declared.{Declared}
+use Rattle.edl_grammar.specs.declared.Declared.{Declared}
 use Rattle.edl_layout.specs.Sizes.{AreMembers}
 use Rattle.edl_layout.proofs.Together.{structure_next, union_next, enumeration_next}
 use Rattle.edl_layout.proofs.sizes.decl_size.Goals as goal

@@ -1,6 +1,6 @@
 use Rattle.std.proofs.Common.{◌≡◌, Some, sym, ◌∙◌, subst}
 use Rattle.std.proofs.lemmas.Option.{same_Some}
-use Rattle.edl_parser.specs.declared.TypeDecl.{TypeDecl}
+use Rattle.edl_grammar.specs.declared.TypeDecl.{TypeDecl}
 use Rattle.edl_layout.specs.declared.sizes.TypeSize.TheVariants as size
 use Rattle.edl_layout.specs.Sizes.{IsNextSize}
 use Rattle.edl_layout.proofs.Sweeping.{found_next}

@@ -1,5 +1,5 @@
 use Rattle.std.proofs.Common.{List, subst, arith}
-use Rattle.edl_parser.specs.declared.Declared.{Declared}
+use Rattle.edl_grammar.specs.declared.Declared.{Declared}
 use Rattle.edl_layout.specs.Sizes.{IsMemberSize, AreMembers}
 use Rattle.edl_layout.proofs.Together.{no_members, next_member}
 use Rattle.edl_layout.proofs.Sweeping.{whole_taken}

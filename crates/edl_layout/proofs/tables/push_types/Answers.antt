@@ -1,6 +1,6 @@
 use Rattle.std.proofs.Common.{List, ◌++◌, [], ◌∷◌, map, sym, ◌∙◌, ap, append-nil, arith}
 use Rattle.std.proofs.lemmas.List.{map-append}
-use Rattle.edl_parser.specs.declared.TypeDecl.{TypeDecl}
+use Rattle.edl_grammar.specs.declared.TypeDecl.{TypeDecl}
 use Rattle.edl_layout.specs.Named.{seen}
 use Rattle.edl_layout.proofs.Flat.{in_file, pushed_next}
 use Rattle.edl_layout.proofs.Sweeping.{whole_taken}

@@ -1,7 +1,7 @@
 use Rattle.std.proofs.Common.{◌≡◌, ◌<◌, ◌≤◌, List, ◌++◌, map, length, get_or, refl, sym, ◌∙◌, ap, subst, arith}
-use Rattle.edl_parser.specs.declared.SourceFile.{SourceFile}
-use Rattle.edl_parser.specs.declared.TypeDecl.{TypeDecl}
-use Rattle.edl_parser.specs.Files.{types_of}
+use Rattle.edl_grammar.specs.declared.SourceFile.{SourceFile}
+use Rattle.edl_grammar.specs.declared.TypeDecl.{TypeDecl}
+use Rattle.edl_grammar.specs.Files.{types_of}
 use Rattle.edl_layout.specs.Named.{seen}
 use Rattle.edl_layout.proofs.Flat.{in_file, flat_next, flat_all}
 use Rattle.edl_layout.proofs.tables.types_in.Goals as goal

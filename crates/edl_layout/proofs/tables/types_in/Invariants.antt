@@ -1,5 +1,5 @@
 use Rattle.std.proofs.Common.{◌≡◌, ◌++◌, map, drop}
-use Rattle.edl_parser.specs.Files.{types_of, types_from}
+use Rattle.edl_grammar.specs.Files.{types_of, types_from}
 use Rattle.edl_layout.specs.Named.{seen}
 use Rattle.edl_layout.proofs.tables.types_in.Given as goal
 

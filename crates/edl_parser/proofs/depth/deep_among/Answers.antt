@@ -1,6 +1,6 @@
 use Rattle.std.proofs.Common.{sym, ◌∙◌, ap, [], ◌∷◌, take}
-use Rattle.edl_parser.specs.declared.Declared.{Declared}
-use Rattle.edl_parser.specs.Sentence.{least, deep_among}
+use Rattle.edl_grammar.specs.declared.Declared.{Declared}
+use Rattle.edl_grammar.specs.Sentence.{least, deep_among}
 use Rattle.edl_parser.specs.Depth.{earlier}
 use Rattle.edl_parser.proofs.Deep.{deep_take}
 use Rattle.edl_parser.proofs.depth.deep_among.Goals as goal

@@ -1,5 +1,5 @@
 use Rattle.std.proofs.Common.{◌≡◌, take}
-use Rattle.edl_parser.specs.Sentence as sentence
+use Rattle.edl_grammar.specs.Sentence as sentence
 use Rattle.edl_parser.proofs.depth.deep_among.Given as goal
 
 abbrev pub invariant-loop-d : goal.invariant-loop-d

@@ -1,7 +1,7 @@
 use Rattle.std.proofs.Common.{sym, ◌∙◌, ap, take}
 use Rattle.std.specs.List.{flat_map}
-use Rattle.edl_parser.specs.declared.FuncDecl.{FuncDecl}
-use Rattle.edl_parser.specs.Sentence.{least, deep_in_function}
+use Rattle.edl_grammar.specs.declared.FuncDecl.{FuncDecl}
+use Rattle.edl_grammar.specs.Sentence.{least, deep_in_function}
 use Rattle.edl_parser.specs.Depth.{earlier}
 use Rattle.edl_parser.proofs.Deep.{least_take}
 use Rattle.edl_parser.proofs.depth.deep_in_functions.Goals as goal

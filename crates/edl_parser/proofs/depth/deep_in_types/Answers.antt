@@ -1,7 +1,7 @@
 use Rattle.std.proofs.Common.{sym, ◌∙◌, ap, take}
 use Rattle.std.specs.List.{flat_map}
-use Rattle.edl_parser.specs.declared.TypeDecl.{TypeDecl}
-use Rattle.edl_parser.specs.Sentence.{least, deep_in_type}
+use Rattle.edl_grammar.specs.declared.TypeDecl.{TypeDecl}
+use Rattle.edl_grammar.specs.Sentence.{least, deep_in_type}
 use Rattle.edl_parser.specs.Depth.{earlier}
 use Rattle.edl_parser.proofs.Deep.{least_take}
 use Rattle.edl_parser.proofs.depth.deep_in_types.Goals as goal

@@ -1,6 +1,6 @@
 use Rattle.std.proofs.Common.{◌≡◌, take}
 use Rattle.std.specs.List.{flat_map}
-use Rattle.edl_parser.specs.Sentence as sentence
+use Rattle.edl_grammar.specs.Sentence as sentence
 use Rattle.edl_parser.proofs.depth.deep_in_types.Given as goal
 
 abbrev pub invariant-loop-d : goal.invariant-loop-d

@@ -1,8 +1,8 @@
 use Rattle.std.proofs.Common.{List, ◌∙◌, ap}
 use Rattle.std.specs.List.{flat_map}
-use Rattle.edl_parser.specs.declared.TypeDecl.{TypeDecl}
-use Rattle.edl_parser.specs.declared.FuncDecl.{FuncDecl}
-use Rattle.edl_parser.specs.Sentence.{least, deep_in_type, deep_in_function}
+use Rattle.edl_grammar.specs.declared.TypeDecl.{TypeDecl}
+use Rattle.edl_grammar.specs.declared.FuncDecl.{FuncDecl}
+use Rattle.edl_grammar.specs.Sentence.{least, deep_in_type, deep_in_function}
 use Rattle.edl_parser.proofs.Deep.{deep_whole}
 use Rattle.edl_parser.proofs.depth.first_deep.Goals as goal
 

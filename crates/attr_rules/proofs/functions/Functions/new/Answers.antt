@@ -2,7 +2,7 @@ use Rattle.std.proofs.Common.{◌≡◌, ◌∙◌, sym, ap, subst, not, ◌&&�
 use Rattle.std.specs.Prelude.{if◌then◌else◌, option_map}
 use Rattle.std.proofs.Common.{refl}
 use Rattle.std.specs.Prelude.{filter_map}
-use Rattle.edl_parser.specs.Files.{FunctionIn, trusted_of, untrusted_of}
+use Rattle.edl_grammar.specs.Files.{FunctionIn, trusted_of, untrusted_of}
 use Rattle.attr_rules.specs.declared.functions.Taken.{Taken}
 use Rattle.attr_rules.specs.Places.{place_in, TellsPlaces}
 use Rattle.attr_rules.specs.Taken.{function_in, picked}

@@ -1,7 +1,7 @@
 use Rattle.std.proofs.Common.{◌≡◌, ◌∙◌, sym, ap, subst, not, ◌&&◌, nat_lt, Option, Some, None, ℕ, List, [], ◌∷◌, ◌++◌, map, Bool, get_or}
 use Rattle.std.specs.Prelude.{if◌then◌else◌, option_map}
 use Rattle.std.specs.Str.{bytes_eq}
-use Rattle.edl_parser.specs.Files.{FunctionIn, trusted_of}
+use Rattle.edl_grammar.specs.Files.{FunctionIn, trusted_of}
 use Rattle.attr_rules.proofs.PlaceLaws.{position-map}
 use Rattle.attr_rules.proofs.functions.Functions.ordinal.Goals as goal
 

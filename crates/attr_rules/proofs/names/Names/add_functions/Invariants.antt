@@ -1,5 +1,5 @@
 use Rattle.std.proofs.Common.{List, ◌++◌, map, take}
-use Rattle.edl_parser.specs.declared.NameAt.{NameAt}
+use Rattle.edl_grammar.specs.declared.NameAt.{NameAt}
 use Rattle.attr_rules.specs.Names.{TellsNames}
 use Rattle.attr_rules.specs.Rules as rules
 use Rattle.attr_rules.proofs.names.Names.add_functions.Given as goal

@@ -1,5 +1,5 @@
 use Rattle.std.proofs.Common.{List, ◌∙◌, ◌∷◌, [], ap, subst, arith}
-use Rattle.edl_parser.specs.declared.Declared.{Declared}
+use Rattle.edl_grammar.specs.declared.Declared.{Declared}
 use Rattle.edl_layout.specs.Walks.{HasGone}
 use Rattle.edl_layout.proofs.Walking.{gone_nowhere, gone_next}
 use Rattle.edl_layout.proofs.Sweeping.{whole_taken}

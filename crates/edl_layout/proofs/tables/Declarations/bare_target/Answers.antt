@@ -1,5 +1,5 @@
 use Rattle.std.proofs.Common.{Some, None, ap, sym, ◌∙◌, subst}
-use Rattle.edl_parser.specs.Files.{types_of}
+use Rattle.edl_grammar.specs.Files.{types_of}
 use Rattle.edl_layout.specs.Meaning.{Meaning}
 use Rattle.edl_layout.specs.Targets.{IsTarget}
 use Rattle.edl_layout.proofs.Naming.{declared_bare, standard_bare, foreign_bare}

@@ -1,6 +1,6 @@
 use Rattle.std.proofs.Common.{ap, sym, Option, Some, None, option_map, ◌∙◌}
 use Rattle.std.proofs.lemmas.Option.{slice_get_within}
-use Rattle.edl_parser.specs.Files.{TypeIn, types_of}
+use Rattle.edl_grammar.specs.Files.{TypeIn, types_of}
 use Rattle.edl_layout.specs.Named.{is_under}
 use Rattle.edl_layout.proofs.Naming.{number_of, first_none}
 use Rattle.edl_layout.proofs.tables.Declarations.declared.Goals as goal

@@ -1,6 +1,6 @@
 use Rattle.std.proofs.Common.{◌≡◌, true, sym, ◌∙◌, arith}
-use Rattle.edl_parser.specs.Parser as parse
-use Rattle.edl_parser.proofs.Values.{values_shrink, values_turn_front}
+use Rattle.edl_grammar.specs.Parser as parse
+use Rattle.edl_grammar.proofs.Values.{values_shrink, values_turn_front}
 use Rattle.edl_parser.proofs.cursor.Cursor.enum_values.Goals as goal
 
 pub loop-alloc-smaller : goal.loop-alloc-smaller

@@ -1,7 +1,7 @@
 use Rattle.std.proofs.Common.{sym, ◌∙◌}
-use Rattle.edl_parser.specs.Parser as parse
+use Rattle.edl_grammar.specs.Parser as parse
 use Rattle.edl_parser.proofs.Loops.{file_start, turn_file, file_end}
-use Rattle.edl_parser.proofs.Shrinking.{item_shrinks}
+use Rattle.edl_grammar.proofs.Shrinking.{item_shrinks}
 use Rattle.edl_parser.proofs.cursor.Cursor.items.Goals as goal
 
 pub loop-alloc-init : goal.loop-alloc-init

@@ -1,5 +1,5 @@
 use Rattle.std.proofs.Common.{◌≡◌, length}
-use Rattle.edl_parser.specs.Parser as parse
+use Rattle.edl_grammar.specs.Parser as parse
 use Rattle.edl_parser.proofs.Loops.{with_file}
 use Rattle.edl_parser.proofs.cursor.Cursor.items.Given as goal
 

@@ -1,7 +1,7 @@
 use Rattle.std.proofs.Common.{sym, ◌∙◌}
-use Rattle.edl_parser.specs.Parser as parse
-use Rattle.edl_parser.proofs.Many.{turn_front}
-use Rattle.edl_parser.proofs.Shrinking.{member_shrinks}
+use Rattle.edl_grammar.specs.Parser as parse
+use Rattle.edl_grammar.proofs.Many.{turn_front}
+use Rattle.edl_grammar.proofs.Shrinking.{member_shrinks}
 use Rattle.edl_parser.proofs.cursor.Cursor.member_list.Goals as goal
 
 pub loop-alloc-preserved : goal.loop-alloc-preserved

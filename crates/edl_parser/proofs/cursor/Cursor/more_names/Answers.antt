@@ -1,7 +1,7 @@
 use Rattle.std.proofs.Common.{sym, ◌∙◌}
-use Rattle.edl_parser.specs.Parser as parse
-use Rattle.edl_parser.proofs.Many.{turn_front}
-use Rattle.edl_parser.proofs.Shrinking.{name_shrinks}
+use Rattle.edl_grammar.specs.Parser as parse
+use Rattle.edl_grammar.proofs.Many.{turn_front}
+use Rattle.edl_grammar.proofs.Shrinking.{name_shrinks}
 use Rattle.edl_parser.proofs.cursor.Cursor.more_names.Goals as goal
 
 pub loop-alloc-preserved : goal.loop-alloc-preserved

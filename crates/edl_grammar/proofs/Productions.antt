@@ -2,25 +2,25 @@
 use Rattle.std.proofs.Common.{◌<◌, ◌+◌, length, length-append, arith, ◌≡◌, ℕ, Bool, true, false, not, List, [], ◌∷◌, ◌++◌, refl, sym, ◌∙◌, ap, subst, Some, None, Ok, Err}
 use Rattle.std.specs.Prelude.{codes, slice_get, ◌||◌}
 use Prim.Native.String.{String}
-use Rattle.edl_parser.specs.declared.EdlFile.{EdlFile}
-use Rattle.edl_parser.specs.declared.Attribute.{Attribute}
-use Rattle.edl_parser.specs.declared.AttrValue.{AttrValue}
-use Rattle.edl_parser.specs.declared.AttrValue.TheVariants as value
-use Rattle.edl_parser.specs.declared.TypeDecl.{TypeDecl}
-use Rattle.edl_parser.specs.declared.TypeDecl.TheVariants as decl
-use Rattle.edl_parser.specs.declared.IncludePlace.{IncludePlace}
-use Rattle.edl_parser.specs.declared.IncludePlace.TheVariants as place
-use Rattle.edl_parser.specs.Symbols.{Symbol, Word, Mark, Lexed, reserved}
-use Rattle.edl_parser.specs.Production.{Production, Then}
-use Rattle.edl_parser.specs.Production as spell
-use Rattle.edl_parser.specs.Grammar.{list_of, nothing, all_of, function, enumeration_of, enumerator}
-use Rattle.edl_parser.specs.Grammar as grammar
-use Rattle.edl_parser.specs.Parser.{Parser, Outcome, and_then, sees, is_word, is_mark, is_name, is_number, begins_type, is_switchless}
-use Rattle.edl_parser.specs.Parser as parse
-use Rattle.edl_parser.proofs.Agrees.{Agrees, anywhere, Ends, before, Begins, begins_some, agrees_where, agrees_as, pure_agrees, bind_agrees, optional_agrees, given_agrees, many_agrees, either_agrees, both_true}
-use Rattle.edl_parser.proofs.Tokens.{word_agrees, mark_agrees, name_agrees, number_agrees, quoted_agrees, mark_is, word_is}
-use Rattle.edl_parser.proofs.Heads.{Skips, Leads, then_begins, then_skips, either_begins, either_skips, word_begins, word_skips, mark_begins, number_begins, name_begins, name_skips, leads_keeps, keeps_pure, then_leads, mark_leads, name_leads, given_leads, many_keeps, is_name_true, or_right}
-use Rattle.edl_parser.proofs.Types.{at_name, ends_type_name, written_agrees, written_begins, written_skips, is_false}
+use Rattle.edl_grammar.specs.declared.EdlFile.{EdlFile}
+use Rattle.edl_grammar.specs.declared.Attribute.{Attribute}
+use Rattle.edl_grammar.specs.declared.AttrValue.{AttrValue}
+use Rattle.edl_grammar.specs.declared.AttrValue.TheVariants as value
+use Rattle.edl_grammar.specs.declared.TypeDecl.{TypeDecl}
+use Rattle.edl_grammar.specs.declared.TypeDecl.TheVariants as decl
+use Rattle.edl_grammar.specs.declared.IncludePlace.{IncludePlace}
+use Rattle.edl_grammar.specs.declared.IncludePlace.TheVariants as place
+use Rattle.edl_grammar.specs.Symbols.{Symbol, Word, Mark, Lexed, reserved}
+use Rattle.edl_grammar.specs.Production.{Production, Then}
+use Rattle.edl_grammar.specs.Production as spell
+use Rattle.edl_grammar.specs.Grammar.{list_of, nothing, all_of, function, enumeration_of, enumerator}
+use Rattle.edl_grammar.specs.Grammar as grammar
+use Rattle.edl_grammar.specs.Parser.{Parser, Outcome, and_then, sees, is_word, is_mark, is_name, is_number, begins_type, is_switchless}
+use Rattle.edl_grammar.specs.Parser as parse
+use Rattle.edl_grammar.proofs.Agrees.{Agrees, anywhere, Ends, before, Begins, begins_some, agrees_where, agrees_as, pure_agrees, bind_agrees, optional_agrees, given_agrees, many_agrees, either_agrees, both_true}
+use Rattle.edl_grammar.proofs.Tokens.{word_agrees, mark_agrees, name_agrees, number_agrees, quoted_agrees, mark_is, word_is}
+use Rattle.edl_grammar.proofs.Heads.{Skips, Leads, then_begins, then_skips, either_begins, either_skips, word_begins, word_skips, mark_begins, number_begins, name_begins, name_skips, leads_keeps, keeps_pure, then_leads, mark_leads, name_leads, given_leads, many_keeps, is_name_true, or_right}
+use Rattle.edl_grammar.proofs.Types.{at_name, ends_type_name, written_agrees, written_begins, written_skips, is_false}
 
 -- ---- lists
 

@@ -1,29 +1,29 @@
 -- The grammar of an interface file, a definition for each production.
 use Rattle.std.specs.Prelude.{ℕ, Bool, true, false, ◌||◌, List, [], ◌∷◌, ◌++◌, length, is_some, Option, Some, None, codes}
-use Rattle.edl_parser.specs.declared.EdlFile.{EdlFile}
-use Rattle.edl_parser.specs.declared.NameAt.{NameAt}
-use Rattle.edl_parser.specs.declared.Include.{Include}
-use Rattle.edl_parser.specs.declared.Import.{Import}
-use Rattle.edl_parser.specs.declared.IncludePlace.{IncludePlace}
-use Rattle.edl_parser.specs.declared.IncludePlace.TheVariants as place
-use Rattle.edl_parser.specs.declared.TypeDecl.{TypeDecl}
-use Rattle.edl_parser.specs.declared.TypeDecl.TheVariants as decl
-use Rattle.edl_parser.specs.declared.EnumValue.{EnumValue}
-use Rattle.edl_parser.specs.declared.FuncDecl.{FuncDecl}
-use Rattle.edl_parser.specs.declared.Declared.{Declared}
-use Rattle.edl_parser.specs.declared.Attribute.{Attribute}
-use Rattle.edl_parser.specs.declared.AttrValue.{AttrValue}
-use Rattle.edl_parser.specs.declared.AttrValue.TheVariants as value
-use Rattle.edl_parser.specs.declared.Written.{Written}
-use Rattle.edl_parser.specs.declared.Base.{Base}
-use Rattle.edl_parser.specs.declared.Base.TheVariants as base
-use Rattle.edl_parser.specs.declared.Tag.{Tag}
-use Rattle.edl_parser.specs.declared.phrases.Phrase.{Phrase}
-use Rattle.edl_parser.specs.declared.enumerations.Literal.{Literal}
-use Rattle.edl_parser.specs.declared.functions.Head.{Head}
-use Rattle.edl_parser.specs.declared.functions.Tail.{Tail}
-use Rattle.edl_parser.specs.declared.Tag.TheVariants as tag
-use Rattle.edl_parser.specs.Production.{Production, ◌>>=◌, ◌>>◌, ◌<|>◌, pure, optional, many, word, mark, name, quoted, number, given, separated}
+use Rattle.edl_grammar.specs.declared.EdlFile.{EdlFile}
+use Rattle.edl_grammar.specs.declared.NameAt.{NameAt}
+use Rattle.edl_grammar.specs.declared.Include.{Include}
+use Rattle.edl_grammar.specs.declared.Import.{Import}
+use Rattle.edl_grammar.specs.declared.IncludePlace.{IncludePlace}
+use Rattle.edl_grammar.specs.declared.IncludePlace.TheVariants as place
+use Rattle.edl_grammar.specs.declared.TypeDecl.{TypeDecl}
+use Rattle.edl_grammar.specs.declared.TypeDecl.TheVariants as decl
+use Rattle.edl_grammar.specs.declared.EnumValue.{EnumValue}
+use Rattle.edl_grammar.specs.declared.FuncDecl.{FuncDecl}
+use Rattle.edl_grammar.specs.declared.Declared.{Declared}
+use Rattle.edl_grammar.specs.declared.Attribute.{Attribute}
+use Rattle.edl_grammar.specs.declared.AttrValue.{AttrValue}
+use Rattle.edl_grammar.specs.declared.AttrValue.TheVariants as value
+use Rattle.edl_grammar.specs.declared.Written.{Written}
+use Rattle.edl_grammar.specs.declared.Base.{Base}
+use Rattle.edl_grammar.specs.declared.Base.TheVariants as base
+use Rattle.edl_grammar.specs.declared.Tag.{Tag}
+use Rattle.edl_grammar.specs.declared.Phrase.{Phrase}
+use Rattle.edl_grammar.specs.declared.Literal.{Literal}
+use Rattle.edl_grammar.specs.declared.Head.{Head}
+use Rattle.edl_grammar.specs.declared.Tail.{Tail}
+use Rattle.edl_grammar.specs.declared.Tag.TheVariants as tag
+use Rattle.edl_grammar.specs.Production.{Production, ◌>>=◌, ◌>>◌, ◌<|>◌, pure, optional, many, word, mark, name, quoted, number, given, separated}
 use Prim.Native.String.{String}
 
 -- ---- types

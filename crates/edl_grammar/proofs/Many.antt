@@ -1,8 +1,8 @@
 -- A loop that reads any number of things.
 use Rattle.std.proofs.Common.{arith, append_assoc, ◌≡◌, ◌≤◌, ◌<◌, ℕ, zero, suc, Bool, true, false, List, [], ◌∷◌, ◌++◌, length, refl, sym, ◌∙◌, ap, Ok, Err}
-use Rattle.edl_parser.specs.Symbols.{Symbol, Lexed}
-use Rattle.edl_parser.specs.Parser.{Parser, Outcome, and_then, sees, with_front}
-use Rattle.edl_parser.specs.Parser as parse
+use Rattle.edl_grammar.specs.Symbols.{Symbol, Lexed}
+use Rattle.edl_grammar.specs.Parser.{Parser, Outcome, and_then, sees, with_front}
+use Rattle.edl_grammar.specs.Parser as parse
 
 pub with_front-append : {A : Type 0} (xs ys : List A) (r : Outcome (List A)) → with_front xs (with_front ys r) ≡ with_front (xs ++ ys) r
 with_front-append xs ys (Ok p) = ap (λ z. Ok (z, p.1)) (sym (append_assoc xs ys p.0))

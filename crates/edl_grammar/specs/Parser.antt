@@ -4,31 +4,31 @@ use Rattle.std.specs.Prelude.{ℕ, zero, suc, ◌-◌, Bool, true, false, not, �
 use Rattle.std.specs.Str.{bytes_eq}
 use Prim.Native.String.{String}
 use Rattle.edl_lexer.specs.declared.Token.{Token}
-use Rattle.edl_parser.specs.declared.EdlFile.{EdlFile}
-use Rattle.edl_parser.specs.declared.NameAt.{NameAt}
-use Rattle.edl_parser.specs.declared.IncludePlace.{IncludePlace}
-use Rattle.edl_parser.specs.declared.IncludePlace.TheVariants as place
-use Rattle.edl_parser.specs.declared.TypeDecl.{TypeDecl}
-use Rattle.edl_parser.specs.declared.TypeDecl.TheVariants as decl
-use Rattle.edl_parser.specs.declared.EnumValue.{EnumValue}
-use Rattle.edl_parser.specs.declared.Declared.{Declared}
-use Rattle.edl_parser.specs.declared.Attribute.{Attribute}
-use Rattle.edl_parser.specs.declared.AttrValue.{AttrValue}
-use Rattle.edl_parser.specs.declared.AttrValue.TheVariants as value
-use Rattle.edl_parser.specs.declared.Written.{Written}
-use Rattle.edl_parser.specs.declared.Base.{Base}
-use Rattle.edl_parser.specs.declared.Base.TheVariants as base
-use Rattle.edl_parser.specs.declared.Tag.{Tag}
-use Rattle.edl_parser.specs.declared.phrases.Phrase.{Phrase}
-use Rattle.edl_parser.specs.declared.enumerations.Literal.{Literal}
-use Rattle.edl_parser.specs.declared.functions.Head.{Head}
-use Rattle.edl_parser.specs.declared.functions.Tail.{Tail}
-use Rattle.edl_parser.specs.declared.Tag.TheVariants as tag
-use Rattle.edl_parser.specs.declared.ParseFault.{ParseFault}
-use Rattle.edl_parser.specs.declared.ParseFault.TheVariants as faults
-use Rattle.edl_parser.specs.Symbols.{Symbol, Word, Number, Text, Mark, Lexed, symbols, is_reserved}
-use Rattle.edl_parser.specs.Grammar.{joined, signed_base, words_of, list_of, enumerator, enumeration_of, function, all_of, include_item, import_item, type_as_item, trusted_as_item, untrusted_as_item}
-use Rattle.edl_parser.specs.Sentence.{deep_in, least, fault}
+use Rattle.edl_grammar.specs.declared.EdlFile.{EdlFile}
+use Rattle.edl_grammar.specs.declared.NameAt.{NameAt}
+use Rattle.edl_grammar.specs.declared.IncludePlace.{IncludePlace}
+use Rattle.edl_grammar.specs.declared.IncludePlace.TheVariants as place
+use Rattle.edl_grammar.specs.declared.TypeDecl.{TypeDecl}
+use Rattle.edl_grammar.specs.declared.TypeDecl.TheVariants as decl
+use Rattle.edl_grammar.specs.declared.EnumValue.{EnumValue}
+use Rattle.edl_grammar.specs.declared.Declared.{Declared}
+use Rattle.edl_grammar.specs.declared.Attribute.{Attribute}
+use Rattle.edl_grammar.specs.declared.AttrValue.{AttrValue}
+use Rattle.edl_grammar.specs.declared.AttrValue.TheVariants as value
+use Rattle.edl_grammar.specs.declared.Written.{Written}
+use Rattle.edl_grammar.specs.declared.Base.{Base}
+use Rattle.edl_grammar.specs.declared.Base.TheVariants as base
+use Rattle.edl_grammar.specs.declared.Tag.{Tag}
+use Rattle.edl_grammar.specs.declared.Phrase.{Phrase}
+use Rattle.edl_grammar.specs.declared.Literal.{Literal}
+use Rattle.edl_grammar.specs.declared.Head.{Head}
+use Rattle.edl_grammar.specs.declared.Tail.{Tail}
+use Rattle.edl_grammar.specs.declared.Tag.TheVariants as tag
+use Rattle.edl_grammar.specs.declared.ParseFault.{ParseFault}
+use Rattle.edl_grammar.specs.declared.ParseFault.TheVariants as faults
+use Rattle.edl_grammar.specs.Symbols.{Symbol, Word, Number, Text, Mark, Lexed, symbols, is_reserved}
+use Rattle.edl_grammar.specs.Grammar.{joined, signed_base, words_of, list_of, enumerator, enumeration_of, function, all_of, include_item, import_item, type_as_item, trusted_as_item, untrusted_as_item}
+use Rattle.edl_grammar.specs.Sentence.{deep_in, least, fault}
 
 -- a value and what is left, or what is left at the first unexpected symbol
 abbrev pub Outcome : Type 0 → Type 0

@@ -2,11 +2,11 @@
 -- where it stops some continuation is in the production, and its answer depends on nothing behind the symbol
 -- at which it stops.
 use Rattle.std.proofs.Common.{inl, inr, append-nil, ◌≡◌, ℕ, zero, suc, ◌+◌, ◌<◌, ◌≤◌, Bool, true, false, not, ◌&&◌, List, [], ◌∷◌, ◌++◌, length, refl, sym, ◌∙◌, ap, subst, append_assoc, length-append, arith, Option, Some, None, Ok, Err}
-use Rattle.edl_parser.specs.Symbols.{Symbol, Lexed}
-use Rattle.edl_parser.specs.Production.{Production, Then}
-use Rattle.edl_parser.specs.Production as spell
-use Rattle.edl_parser.specs.Parser.{Outcome, Parser, and_then, sees}
-use Rattle.edl_parser.specs.Parser as parse
+use Rattle.edl_grammar.specs.Symbols.{Symbol, Lexed}
+use Rattle.edl_grammar.specs.Production.{Production, Then}
+use Rattle.edl_grammar.specs.Production as spell
+use Rattle.edl_grammar.specs.Parser.{Outcome, Parser, and_then, sees}
+use Rattle.edl_grammar.specs.Parser as parse
 
 abbrev pub left : {A : Type 0} → Outcome A → List Lexed
 left (Ok p) = p.1

@@ -1,18 +1,18 @@
 -- Enumerators, after the last of which a comma may stand.
 use Rattle.std.proofs.Common.{arith, append_assoc, append-nil, inl, inr, ◌≡◌, ◌≤◌, ◌<◌, ◌+◌, ℕ, zero, suc, Bool, true, false, List, [], ◌∷◌, ◌++◌, length, length-append, refl, sym, ◌∙◌, ap, subst, Ok, Err}
 use Prim.Native.String.{String}
-use Rattle.edl_parser.specs.declared.EnumValue.{EnumValue}
-use Rattle.edl_parser.specs.Symbols.{Mark, Lexed}
-use Rattle.edl_parser.specs.Production.{Production, Then}
-use Rattle.edl_parser.specs.Production as spell
-use Rattle.edl_parser.specs.Grammar as grammar
-use Rattle.edl_parser.specs.Parser.{Parser, Outcome, and_then, sees, is_word, is_mark, is_name, values_within}
-use Rattle.edl_parser.specs.Parser as parse
-use Rattle.edl_parser.proofs.Agrees.{Agrees, anywhere, Ends, before, IsSteady, agrees_by, agrees_where, pure_agrees, bind_agrees, either_agrees}
-use Rattle.edl_parser.proofs.Tokens.{mark_agrees, mark_is}
-use Rattle.edl_parser.proofs.Heads.{Leads, Keeps, then_begins, mark_begins, name_begins, keeps_pure, then_leads, mark_leads, is_name_true}
-use Rattle.edl_parser.proofs.Many.{with_front-append}
-use Rattle.edl_parser.proofs.Productions.{as_front, at_mark, enum_value_agrees, shrinks}
+use Rattle.edl_grammar.specs.declared.EnumValue.{EnumValue}
+use Rattle.edl_grammar.specs.Symbols.{Mark, Lexed}
+use Rattle.edl_grammar.specs.Production.{Production, Then}
+use Rattle.edl_grammar.specs.Production as spell
+use Rattle.edl_grammar.specs.Grammar as grammar
+use Rattle.edl_grammar.specs.Parser.{Parser, Outcome, and_then, sees, is_word, is_mark, is_name, values_within}
+use Rattle.edl_grammar.specs.Parser as parse
+use Rattle.edl_grammar.proofs.Agrees.{Agrees, anywhere, Ends, before, IsSteady, agrees_by, agrees_where, pure_agrees, bind_agrees, either_agrees}
+use Rattle.edl_grammar.proofs.Tokens.{mark_agrees, mark_is}
+use Rattle.edl_grammar.proofs.Heads.{Leads, Keeps, then_begins, mark_begins, name_begins, keeps_pure, then_leads, mark_leads, is_name_true}
+use Rattle.edl_grammar.proofs.Many.{with_front-append}
+use Rattle.edl_grammar.proofs.Productions.{as_front, at_mark, enum_value_agrees, shrinks}
 
 brace_not : (k : String) → is_mark k (Mark 125) ≡ false → (rest : List Lexed) → at_mark "}" rest ≡ true → sees (is_mark k) rest ≡ false
 brace_not k d [] e = refl

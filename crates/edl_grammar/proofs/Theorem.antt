@@ -1,18 +1,18 @@
 -- The parser and the grammar agree.
 use Rattle.std.proofs.Common.{◌≡◌, ℕ, List}
 use Rattle.edl_lexer.specs.declared.Token.{Token}
-use Rattle.edl_parser.specs.declared.EdlFile.{EdlFile}
-use Rattle.edl_parser.specs.Symbols.{Lexed}
-use Rattle.edl_parser.specs.Grammar.{file}
-use Rattle.edl_parser.specs.Sentence.{Parses}
-use Rattle.edl_parser.specs.Parser as parse
-use Rattle.edl_parser.proofs.Agrees.{Agrees, anywhere}
-use Rattle.edl_parser.proofs.Productions.{Apart, file_agrees}
-use Rattle.edl_parser.proofs.Tail.{tail_agrees}
-use Rattle.edl_parser.proofs.Params.{params_agree}
-use Rattle.edl_parser.proofs.Values.{enum_values_agree}
-use Rattle.edl_parser.proofs.Counting.{length_symbols}
-use Rattle.edl_parser.proofs.Whole.{one_value, parses}
+use Rattle.edl_grammar.specs.declared.EdlFile.{EdlFile}
+use Rattle.edl_grammar.specs.Symbols.{Lexed}
+use Rattle.edl_grammar.specs.Grammar.{file}
+use Rattle.edl_grammar.specs.Sentence.{Parses}
+use Rattle.edl_grammar.specs.Parser as parse
+use Rattle.edl_grammar.proofs.Agrees.{Agrees, anywhere}
+use Rattle.edl_grammar.proofs.Productions.{Apart, file_agrees}
+use Rattle.edl_grammar.proofs.Tails.{tail_agrees}
+use Rattle.edl_grammar.proofs.Params.{params_agree}
+use Rattle.edl_grammar.proofs.Values.{enum_values_agree}
+use Rattle.edl_grammar.proofs.Counting.{length_symbols}
+use Rattle.edl_grammar.proofs.Whole.{one_value, parses}
 
 pub apart : Apart
 apart = record { values = enum_values_agree; params = params_agree; tail = tail_agrees }

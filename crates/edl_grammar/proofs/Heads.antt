@@ -4,11 +4,11 @@ use Rattle.std.specs.Prelude.{codes, slice_get, slice_index, ◌||◌}
 use Rattle.std.specs.List.{list_any}
 use Rattle.std.specs.Str.{bytes_eq}
 use Prim.Native.String.{String}
-use Rattle.edl_parser.specs.Symbols.{Symbol, Word, Number, Mark, Lexed, is_reserved, reserved}
-use Rattle.edl_parser.specs.Production.{Production, Then}
-use Rattle.edl_parser.specs.Production as spell
-use Rattle.edl_parser.specs.Parser.{sees, is_word, is_name}
-use Rattle.edl_parser.proofs.Agrees.{Begins, Ends}
+use Rattle.edl_grammar.specs.Symbols.{Symbol, Word, Number, Mark, Lexed, is_reserved, reserved}
+use Rattle.edl_grammar.specs.Production.{Production, Then}
+use Rattle.edl_grammar.specs.Production as spell
+use Rattle.edl_grammar.specs.Parser.{sees, is_word, is_name}
+use Rattle.edl_grammar.proofs.Agrees.{Begins, Ends}
 
 -- no sentence begins with a symbol that passes the test
 abbrev pub Skips : {A : Type 0} → Production A → (Symbol → Bool) → Type 0

@@ -5,12 +5,12 @@ use Rattle.std.specs.Str.{bytes_eq}
 use Rattle.std.proofs.lemmas.Bool.{eqb-true}
 use Rattle.std.proofs.lemmas.Slice.Eq.{bytes_eq-Decides}
 use Prim.Native.String.{String}
-use Rattle.edl_parser.specs.declared.NameAt.{NameAt}
-use Rattle.edl_parser.specs.Symbols.{Symbol, Word, Number, Text, Mark, Lexed, is_reserved}
-use Rattle.edl_parser.specs.Production as spell
-use Rattle.edl_parser.specs.Parser.{Parser, Outcome, token_if, name_if, is_word, is_mark, name_of, text_of, number_of}
-use Rattle.edl_parser.specs.Parser as parse
-use Rattle.edl_parser.proofs.Agrees.{Agrees, anywhere, agrees_by, One, one_agrees}
+use Rattle.edl_grammar.specs.declared.NameAt.{NameAt}
+use Rattle.edl_grammar.specs.Symbols.{Symbol, Word, Number, Text, Mark, Lexed, is_reserved}
+use Rattle.edl_grammar.specs.Production as spell
+use Rattle.edl_grammar.specs.Parser.{Parser, Outcome, token_if, name_if, is_word, is_mark, name_of, text_of, number_of}
+use Rattle.edl_grammar.specs.Parser as parse
+use Rattle.edl_grammar.proofs.Agrees.{Agrees, anywhere, agrees_by, One, one_agrees}
 
 pub bytes_eq-true : (xs ys : List ℕ) → bytes_eq xs ys ≡ true → xs ≡ ys
 bytes_eq-true xs ys e = (bytes_eq-Decides xs ys).0 e

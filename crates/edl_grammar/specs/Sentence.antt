@@ -3,15 +3,15 @@ use Rattle.std.specs.Prelude.{◌≡◌, ℕ, suc, ◌<◌, ◌≤◌, min, Bool
 use Rattle.sgx_base.specs.declared.Fault.{Fault}
 use Rattle.edl_lexer.specs.declared.Token.{Token}
 use Rattle.edl_lexer.specs.Lexing.{opening, after, fault_at}
-use Rattle.edl_parser.specs.declared.EdlFile.{EdlFile}
-use Rattle.edl_parser.specs.declared.TypeDecl.{TypeDecl}
-use Rattle.edl_parser.specs.declared.TypeDecl.TheVariants as decl
-use Rattle.edl_parser.specs.declared.FuncDecl.{FuncDecl}
-use Rattle.edl_parser.specs.declared.Declared.{Declared}
-use Rattle.edl_parser.specs.declared.ParseFault.{ParseFault}
-use Rattle.edl_parser.specs.declared.ParseFault.TheVariants as faults
-use Rattle.edl_parser.specs.Symbols.{Lexed, symbols}
-use Rattle.edl_parser.specs.Grammar.{file}
+use Rattle.edl_grammar.specs.declared.EdlFile.{EdlFile}
+use Rattle.edl_grammar.specs.declared.TypeDecl.{TypeDecl}
+use Rattle.edl_grammar.specs.declared.TypeDecl.TheVariants as decl
+use Rattle.edl_grammar.specs.declared.FuncDecl.{FuncDecl}
+use Rattle.edl_grammar.specs.declared.Declared.{Declared}
+use Rattle.edl_grammar.specs.declared.ParseFault.{ParseFault}
+use Rattle.edl_grammar.specs.declared.ParseFault.TheVariants as faults
+use Rattle.edl_grammar.specs.Symbols.{Lexed, symbols}
+use Rattle.edl_grammar.specs.Grammar.{file}
 
 abbrev pub IsSentence : List Lexed → Type 0
 IsSentence ss = (tree : EdlFile) × file ss tree

@@ -4,7 +4,7 @@ use Rattle.std.specs.Prelude.{◌||◌}
 use Rattle.std.specs.List.{list_any}
 use Rattle.std.proofs.lemmas.List.Folds.{list_any-append}
 use Rattle.edl_lexer.specs.declared.Token.{Token}
-use Rattle.edl_parser.specs.Symbols.{symbols_from}
+use Rattle.edl_grammar.specs.Symbols.{symbols_from}
 
 pub length_symbols : (n : ℕ) (bytes : List ℕ) (tokens : List Token) → length (symbols_from n bytes tokens) ≡ length tokens
 length_symbols n bytes [] = refl

@@ -1,15 +1,15 @@
 -- What a loop reads in one turn is not empty.
 use Rattle.std.proofs.Common.{refl}
-use Rattle.edl_parser.specs.Production.{Production}
-use Rattle.edl_parser.specs.Parser.{Parser, is_mark}
-use Rattle.edl_parser.specs.Parser as parse
-use Rattle.edl_parser.proofs.Agrees.{Agrees, Ends, bind_agrees}
-use Rattle.edl_parser.proofs.Tokens.{mark_agrees, name_agrees}
-use Rattle.edl_parser.proofs.Heads.{then_begins, mark_begins}
-use Rattle.edl_parser.proofs.Types.{written_begins}
-use Rattle.edl_parser.proofs.Many.{Shrinks}
-use Rattle.edl_parser.proofs.Productions.{shrinks, dim_agrees, dim_begins, attribute_agrees, param_agrees, member_agrees, trusted_item_agrees, untrusted_item_agrees, item_agrees, trusted_begins, untrusted_begins, item_begins}
-use Rattle.edl_parser.proofs.Theorem.{apart}
+use Rattle.edl_grammar.specs.Production.{Production}
+use Rattle.edl_grammar.specs.Parser.{Parser, is_mark}
+use Rattle.edl_grammar.specs.Parser as parse
+use Rattle.edl_grammar.proofs.Agrees.{Agrees, Ends, bind_agrees}
+use Rattle.edl_grammar.proofs.Tokens.{mark_agrees, name_agrees}
+use Rattle.edl_grammar.proofs.Heads.{then_begins, mark_begins}
+use Rattle.edl_grammar.proofs.Types.{written_begins}
+use Rattle.edl_grammar.proofs.Many.{Shrinks}
+use Rattle.edl_grammar.proofs.Productions.{shrinks, dim_agrees, dim_begins, attribute_agrees, param_agrees, member_agrees, trusted_item_agrees, untrusted_item_agrees, item_agrees, trusted_begins, untrusted_begins, item_begins}
+use Rattle.edl_grammar.proofs.Theorem.{apart}
 
 after_comma_shrinks : {A : Type 0} {P : Production A} {p : Parser A} {ends : Ends} → Agrees P p ends → Shrinks (is_mark ",") (parse.after_comma p)
 after_comma_shrinks h = shrinks (is_mark ",") (bind_agrees (mark_agrees ",") (λ _. h) (λ n back rest b d e. refl)) (then_begins (is_mark ",") (mark_begins "," (is_mark ",") refl))

@@ -3,22 +3,22 @@ use Rattle.std.proofs.Common.{◌≡◌, ℕ, Bool, true, false, not, ◌⊎◌,
 use Rattle.std.specs.Prelude.{codes, slice_get, ◌||◌, is_some}
 use Rattle.std.proofs.lemmas.Bool.{eqb-true}
 use Prim.Native.String.{String}
-use Rattle.edl_parser.specs.declared.Base.{Base}
-use Rattle.edl_parser.specs.declared.Base.TheVariants as base
-use Rattle.edl_parser.specs.declared.Tag.{Tag}
-use Rattle.edl_parser.specs.declared.Tag.TheVariants as tag
-use Rattle.edl_parser.specs.declared.Written.{Written}
-use Rattle.edl_parser.specs.Symbols.{Symbol, Word, Number, Text, Mark, Lexed, is_reserved, reserved}
-use Rattle.edl_parser.specs.Production.{Production, Then}
-use Rattle.edl_parser.specs.Production as spell
-use Rattle.edl_parser.specs.Grammar.{joined, words_of, signed_base}
-use Rattle.edl_parser.specs.declared.phrases.Phrase.{Phrase}
-use Rattle.edl_parser.specs.Grammar as grammar
-use Rattle.edl_parser.specs.Parser.{Parser, Outcome, and_then, sees, is_word, is_mark, is_name, begins_type, is_int_word, is_sign, is_plain, is_named}
-use Rattle.edl_parser.specs.Parser as parse
-use Rattle.edl_parser.proofs.Agrees.{Agrees, anywhere, Ends, before, Begins, Avoids, agrees_where, agrees_as, pure_agrees, bind_agrees, optional_agrees, many_agrees, either_agrees}
-use Rattle.edl_parser.proofs.Tokens.{word_agrees, mark_agrees, name_agrees, word_is, mark_is}
-use Rattle.edl_parser.proofs.Heads.{Skips, then_begins, then_skips, either_skips, either_begins, word_begins, word_skips, mark_begins, name_begins, name_skips, Leads, leads_keeps, keeps_pure, then_leads, word_leads, mark_leads, either_leads, optional_leads, or_right, optional_keeps, many_keeps, not_name, or_cases, is_name_true}
+use Rattle.edl_grammar.specs.declared.Base.{Base}
+use Rattle.edl_grammar.specs.declared.Base.TheVariants as base
+use Rattle.edl_grammar.specs.declared.Tag.{Tag}
+use Rattle.edl_grammar.specs.declared.Tag.TheVariants as tag
+use Rattle.edl_grammar.specs.declared.Written.{Written}
+use Rattle.edl_grammar.specs.Symbols.{Symbol, Word, Number, Text, Mark, Lexed, is_reserved, reserved}
+use Rattle.edl_grammar.specs.Production.{Production, Then}
+use Rattle.edl_grammar.specs.Production as spell
+use Rattle.edl_grammar.specs.Grammar.{joined, words_of, signed_base}
+use Rattle.edl_grammar.specs.declared.Phrase.{Phrase}
+use Rattle.edl_grammar.specs.Grammar as grammar
+use Rattle.edl_grammar.specs.Parser.{Parser, Outcome, and_then, sees, is_word, is_mark, is_name, begins_type, is_int_word, is_sign, is_plain, is_named}
+use Rattle.edl_grammar.specs.Parser as parse
+use Rattle.edl_grammar.proofs.Agrees.{Agrees, anywhere, Ends, before, Begins, Avoids, agrees_where, agrees_as, pure_agrees, bind_agrees, optional_agrees, many_agrees, either_agrees}
+use Rattle.edl_grammar.proofs.Tokens.{word_agrees, mark_agrees, name_agrees, word_is, mark_is}
+use Rattle.edl_grammar.proofs.Heads.{Skips, then_begins, then_skips, either_skips, either_begins, word_begins, word_skips, mark_begins, name_begins, name_skips, Leads, leads_keeps, keeps_pure, then_leads, word_leads, mark_leads, either_leads, optional_leads, or_right, optional_keeps, many_keeps, not_name, or_cases, is_name_true}
 
 -- ---- what stands behind a base, and behind a type
 

@@ -1,6 +1,6 @@
 use Rattle.std.proofs.Common.{refl}
-use Rattle.edl_parser.specs.Parser.{int, base_type, written, attribute, attributes, members, enumeration, params, allow, func, tail, trusted_item, untrusted_item, item}
-use Rattle.edl_parser.proofs.examples.Goals as goal
+use Rattle.edl_grammar.specs.Parser.{int, base_type, written, attribute, attributes, members, enumeration, params, allow, func, tail, trusted_item, untrusted_item, item}
+use Rattle.edl_grammar.proofs.examples.Goals as goal
 
 pub returns : goal.returns
 unfolding int base_type written attribute attributes members enumeration params allow func tail trusted_item untrusted_item item

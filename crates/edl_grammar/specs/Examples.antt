@@ -4,16 +4,16 @@ use Rattle.sgx_base.specs.declared.Fault.{Fault}
 use Rattle.edl_lexer.specs.declared.Token.{Token}
 use Rattle.edl_lexer.specs.declared.LexFault.{LexFault}
 use Rattle.edl_lexer.specs.Lexing.{lexing}
-use Rattle.edl_parser.specs.declared.EdlFile.{EdlFile}
-use Rattle.edl_parser.specs.declared.ParseFault.{ParseFault}
-use Rattle.edl_parser.specs.declared.ParseFault.TheVariants as faults
-use Rattle.edl_parser.specs.declared.IncludePlace.TheVariants as place
-use Rattle.edl_parser.specs.declared.TypeDecl.TheVariants as decl
-use Rattle.edl_parser.specs.declared.AttrValue.TheVariants as value
-use Rattle.edl_parser.specs.declared.Base.TheVariants as base
-use Rattle.edl_parser.specs.declared.Tag.TheVariants as tag
-use Rattle.edl_parser.specs.Grammar.{nothing}
-use Rattle.edl_parser.specs.Parser.{parsing}
+use Rattle.edl_grammar.specs.declared.EdlFile.{EdlFile}
+use Rattle.edl_grammar.specs.declared.ParseFault.{ParseFault}
+use Rattle.edl_grammar.specs.declared.ParseFault.TheVariants as faults
+use Rattle.edl_grammar.specs.declared.IncludePlace.TheVariants as place
+use Rattle.edl_grammar.specs.declared.TypeDecl.TheVariants as decl
+use Rattle.edl_grammar.specs.declared.AttrValue.TheVariants as value
+use Rattle.edl_grammar.specs.declared.Base.TheVariants as base
+use Rattle.edl_grammar.specs.declared.Tag.TheVariants as tag
+use Rattle.edl_grammar.specs.Grammar.{nothing}
+use Rattle.edl_grammar.specs.Parser.{parsing}
 
 abbrev pub tokens_or_none : Result (List Token) LexFault → List Token
 tokens_or_none (Ok ts) = ts

@@ -1,19 +1,19 @@
 -- The tail of an untrusted function, which is read by its first word.
 use Rattle.std.proofs.Common.{append-nil, inl, inr, ◌≡◌, Bool, true, false, List, [], ◌∷◌, ◌++◌, refl, sym, ◌∙◌, ap, subst, Option, Some, None}
 use Prim.Native.String.{String}
-use Rattle.edl_parser.specs.declared.NameAt.{NameAt}
-use Rattle.edl_parser.specs.Symbols.{Lexed}
-use Rattle.edl_parser.specs.Production.{Production, Then}
-use Rattle.edl_parser.specs.Production as spell
-use Rattle.edl_parser.specs.Grammar.{list_of}
-use Rattle.edl_parser.specs.declared.functions.Tail.{Tail}
-use Rattle.edl_parser.specs.Grammar as grammar
-use Rattle.edl_parser.specs.Parser.{sees, is_word, is_mark, is_name, is_switchless, no_tail}
-use Rattle.edl_parser.specs.Parser as parse
-use Rattle.edl_parser.proofs.Agrees.{Agrees, anywhere, Ends, before, agrees_by, agrees_where, pure_agrees, bind_agrees, optional_agrees, given_agrees, either_agrees}
-use Rattle.edl_parser.proofs.Tokens.{word_agrees, mark_agrees, mark_is}
-use Rattle.edl_parser.proofs.Heads.{then_begins, then_skips, word_begins, word_skips, name_begins, leads_keeps, keeps_pure, then_leads, mark_leads, is_name_true}
-use Rattle.edl_parser.proofs.Productions.{at_mark, no_comma, names_agree}
+use Rattle.edl_grammar.specs.declared.NameAt.{NameAt}
+use Rattle.edl_grammar.specs.Symbols.{Lexed}
+use Rattle.edl_grammar.specs.Production.{Production, Then}
+use Rattle.edl_grammar.specs.Production as spell
+use Rattle.edl_grammar.specs.Grammar.{list_of}
+use Rattle.edl_grammar.specs.declared.Tail.{Tail}
+use Rattle.edl_grammar.specs.Grammar as grammar
+use Rattle.edl_grammar.specs.Parser.{sees, is_word, is_mark, is_name, is_switchless, no_tail}
+use Rattle.edl_grammar.specs.Parser as parse
+use Rattle.edl_grammar.proofs.Agrees.{Agrees, anywhere, Ends, before, agrees_by, agrees_where, pure_agrees, bind_agrees, optional_agrees, given_agrees, either_agrees}
+use Rattle.edl_grammar.proofs.Tokens.{word_agrees, mark_agrees, mark_is}
+use Rattle.edl_grammar.proofs.Heads.{then_begins, then_skips, word_begins, word_skips, name_begins, leads_keeps, keeps_pure, then_leads, mark_leads, is_name_true}
+use Rattle.edl_grammar.proofs.Productions.{at_mark, no_comma, names_agree}
 
 -- a mark is no word
 pub no_word_at : (m w : String) (rest : List Lexed) → at_mark m rest ≡ true → sees (is_word w) rest ≡ false

@@ -2,27 +2,27 @@
 use Rattle.std.proofs.Common.{arith, length, append_assoc, append-nil, inl, inr, ◌≡◌, ℕ, Bool, true, false, not, ◌&&◌, List, [], ◌∷◌, ◌++◌, refl, sym, ◌∙◌, ap, subst, Option, Some, None}
 use Rattle.std.specs.Prelude.{codes, slice_index}
 use Prim.Native.String.{String}
-use Rattle.edl_parser.specs.declared.Declared.{Declared}
-use Rattle.edl_parser.specs.declared.Attribute.{Attribute}
-use Rattle.edl_parser.specs.declared.Written.{Written}
-use Rattle.edl_parser.specs.declared.Base.{Base}
-use Rattle.edl_parser.specs.declared.Base.TheVariants as base
-use Rattle.edl_parser.specs.declared.Tag.{Tag}
-use Rattle.edl_parser.specs.declared.Tag.TheVariants as tag
+use Rattle.edl_grammar.specs.declared.Declared.{Declared}
+use Rattle.edl_grammar.specs.declared.Attribute.{Attribute}
+use Rattle.edl_grammar.specs.declared.Written.{Written}
+use Rattle.edl_grammar.specs.declared.Base.{Base}
+use Rattle.edl_grammar.specs.declared.Base.TheVariants as base
+use Rattle.edl_grammar.specs.declared.Tag.{Tag}
+use Rattle.edl_grammar.specs.declared.Tag.TheVariants as tag
 use Rattle.std.proofs.lemmas.Bool.{eqb-true}
-use Rattle.edl_parser.specs.Symbols.{Mark, Lexed}
-use Rattle.edl_parser.specs.Production.{Production, Then}
-use Rattle.edl_parser.specs.Production as spell
-use Rattle.edl_parser.specs.Grammar.{list_of, signed_base}
-use Rattle.edl_parser.specs.declared.phrases.Phrase.{Phrase}
-use Rattle.edl_parser.specs.Grammar as grammar
-use Rattle.edl_parser.specs.Parser.{sees, is_word, is_mark, is_name, begins_type, is_lone_void}
-use Rattle.edl_parser.specs.Parser as parse
-use Rattle.edl_parser.proofs.Agrees.{Agrees, Ends, before, agrees_by, agrees_where, agrees_as, pure_agrees, bind_agrees, many_agrees, either_agrees, either_agrees_at, both_true}
-use Rattle.edl_parser.proofs.Tokens.{mark_agrees, name_agrees, mark_is}
-use Rattle.edl_parser.proofs.Heads.{Keeps, then_begins, then_skips, mark_begins, leads_keeps, keeps_pure, then_leads, mark_leads, name_leads, many_keeps}
-use Rattle.edl_parser.proofs.Types.{at_name, ends_type_name, written_agrees, written_skips, writing}
-use Rattle.edl_parser.proofs.Productions.{as_front, at_mark, no_dim, dim_agrees, dim_begins, declared_agrees, param_agrees, attributes_agree}
+use Rattle.edl_grammar.specs.Symbols.{Mark, Lexed}
+use Rattle.edl_grammar.specs.Production.{Production, Then}
+use Rattle.edl_grammar.specs.Production as spell
+use Rattle.edl_grammar.specs.Grammar.{list_of, signed_base}
+use Rattle.edl_grammar.specs.declared.Phrase.{Phrase}
+use Rattle.edl_grammar.specs.Grammar as grammar
+use Rattle.edl_grammar.specs.Parser.{sees, is_word, is_mark, is_name, begins_type, is_lone_void}
+use Rattle.edl_grammar.specs.Parser as parse
+use Rattle.edl_grammar.proofs.Agrees.{Agrees, Ends, before, agrees_by, agrees_where, agrees_as, pure_agrees, bind_agrees, many_agrees, either_agrees, either_agrees_at, both_true}
+use Rattle.edl_grammar.proofs.Tokens.{mark_agrees, name_agrees, mark_is}
+use Rattle.edl_grammar.proofs.Heads.{Keeps, then_begins, then_skips, mark_begins, leads_keeps, keeps_pure, then_leads, mark_leads, name_leads, many_keeps}
+use Rattle.edl_grammar.proofs.Types.{at_name, ends_type_name, written_agrees, written_skips, writing}
+use Rattle.edl_grammar.proofs.Productions.{as_front, at_mark, no_dim, dim_agrees, dim_begins, declared_agrees, param_agrees, attributes_agree}
 
 -- a mark is not another
 other_mark : (m k : String) → is_mark k (Mark (slice_index (codes m) 0)) ≡ false → (rest : List Lexed) → at_mark m rest ≡ true → sees (is_mark k) rest ≡ false

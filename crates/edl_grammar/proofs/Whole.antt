@@ -1,15 +1,15 @@
 -- What follows of a parser that agrees with a production, for a list of symbols as a whole.
 use Rattle.std.proofs.Common.{arith, append_assoc, append-nil, ◌≡◌, ◌≤◌, ◌<◌, ◌-◌, ℕ, suc, List, [], ◌∷◌, ◌++◌, length, take, length-append, refl, sym, ◌∙◌, ap, subst, Option, Some, None, Ok, Err}
-use Rattle.edl_parser.specs.Symbols.{Lexed}
-use Rattle.edl_parser.specs.Production.{Production}
+use Rattle.edl_grammar.specs.Symbols.{Lexed}
+use Rattle.edl_grammar.specs.Production.{Production}
 use Rattle.edl_lexer.specs.declared.Token.{Token}
-use Rattle.edl_parser.specs.declared.EdlFile.{EdlFile}
-use Rattle.edl_parser.specs.Symbols.{symbols}
-use Rattle.edl_parser.specs.Grammar.{file}
-use Rattle.edl_parser.specs.Sentence.{IsViable, IsFirstUnexpected, Parses, deep_in, least}
-use Rattle.edl_parser.specs.Parser.{Parser, Outcome}
-use Rattle.edl_parser.specs.Parser as parse
-use Rattle.edl_parser.proofs.Agrees.{Agrees, anywhere, IsSteady, left, ok_value, ok_left, not_ok}
+use Rattle.edl_grammar.specs.declared.EdlFile.{EdlFile}
+use Rattle.edl_grammar.specs.Symbols.{symbols}
+use Rattle.edl_grammar.specs.Grammar.{file}
+use Rattle.edl_grammar.specs.Sentence.{IsViable, IsFirstUnexpected, Parses, deep_in, least}
+use Rattle.edl_grammar.specs.Parser.{Parser, Outcome}
+use Rattle.edl_grammar.specs.Parser as parse
+use Rattle.edl_grammar.proofs.Agrees.{Agrees, anywhere, IsSteady, left, ok_value, ok_left, not_ok}
 
 module _ {A : Type 0} {P : Production A} {p : Parser A} (h : Agrees P p anywhere) where
   -- a sentence is read to its end

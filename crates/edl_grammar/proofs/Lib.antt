@@ -1,0 +1,13 @@
+pub mod Agrees
+pub mod Tokens
+pub mod Heads
+pub mod Types
+pub mod Productions
+pub mod Whole
+pub mod Many
+pub mod Tails
+pub mod Params
+pub mod Values
+pub mod Theorem
+pub mod Counting
+pub mod Shrinking
