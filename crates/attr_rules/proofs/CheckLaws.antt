@@ -8,8 +8,9 @@ use Rattle.edl_layout.specs.declared.NamedShape.{NamedShape}
 use Rattle.edl_interface.specs.declared.Interface.{Interface}
 use Rattle.attr_rules.specs.declared.RuleFault.{RuleFault}
 use Rattle.attr_rules.specs.declared.RuleFault.TheVariants as faults
-use Rattle.attr_rules.specs.declared.rows.Broken.{Broken}
-use Rattle.attr_rules.specs.Accepted.{answer, interface_of}
+use Rattle.attr_terms.specs.declared.Broken.{Broken}
+use Rattle.attr_terms.specs.Accepted.{interface_of}
+use Rattle.attr_rules.specs.Checked.{answer}
 
 module _ (g : Gathered) (table : List NamedShape) where
   pub answer-first : (bs : List Broken) (b : Broken) → slice_get bs 0 ≡ Some b → ◌≡◌ {A = Result Interface RuleFault} (answer g table bs) (Err (faults.Rule (fault_in g b.file b.token b.code)))

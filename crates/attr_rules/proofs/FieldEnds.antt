@@ -8,7 +8,7 @@ use Rattle.edl_grammar.specs.declared.Declared.{Declared}
 use Rattle.edl_grammar.specs.declared.Written.{Written}
 use Rattle.edl_layout.specs.Shape.{Shape, address, align_of, end_of, all_known, structure_shape}
 use Rattle.edl_layout.specs.Frame.{is_measured, field_shape, param_fields}
-use Rattle.attr_rules.specs.Accepted.{place_behind, offset_by, offset_behind}
+use Rattle.attr_terms.specs.Accepted.{place_behind, offset_by, offset_behind}
 
 -- a known shape that has an alignment
 abbrev pub IsFine : Option Shape → Type 0

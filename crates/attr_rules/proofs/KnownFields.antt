@@ -22,9 +22,9 @@ use Rattle.edl_layout.specs.Table.{IsTable, shape_in}
 use Rattle.edl_layout.specs.Faults.{IsCleanType, IsCleanParam, is_undeclared, is_unknown, is_no_value}
 use Rattle.edl_layout.specs.Frame.{has, is_void, is_by_address, is_returning, is_measured, field_shape, param_fields, result_fields}
 use Rattle.edl_layout.proofs.Growing.{mapped}
-use Rattle.attr_rules.specs.Accepted.{own_size, is_tagged, is_first, base_shape_by, base_shape, shape_of}
+use Rattle.attr_terms.specs.Accepted.{own_size, is_tagged, is_first, base_shape_by, base_shape, shape_of}
 use Rattle.attr_rules.specs.ForRun.{HasSize, AreForRun}
-use Rattle.attr_rules.proofs.SoundLaws.{found-passes, both-true}
+use Rattle.accepted_interface.proofs.SoundLaws.{found-passes, both-true}
 use Rattle.attr_rules.proofs.SizedTypes.{found-in, value-parts, sized}
 use Rattle.attr_rules.proofs.NamesApart.{AreNamedApart}
 use Rattle.attr_rules.proofs.FieldEnds.{IsFine, AreFine, fine-append, align-positive}

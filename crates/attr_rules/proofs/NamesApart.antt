@@ -14,10 +14,10 @@ use Rattle.edl_grammar.specs.declared.TypeDecl.{TypeDecl}
 use Rattle.edl_grammar.specs.declared.TypeDecl.TheVariants as decl
 use Rattle.edl_grammar.specs.Files.{TypeIn, types_of, types_from, token_of}
 use Rattle.edl_layout.specs.Meaning.{is_named}
-use Rattle.attr_rules.specs.Rules.{at, is_second, is_second_name, type_name, type_names, names_in, tree_names, type_rows}
+use Rattle.attr_terms.specs.Rules.{at, is_second, is_second_name, type_name, type_names, names_in, tree_names, type_rows}
 use Rattle.attr_rules.specs.ForRun.{IsRead, AreInOneFile}
-use Rattle.attr_rules.proofs.Unbroken.{AreClean, row-clean, not-above}
-use Rattle.attr_rules.proofs.SoundLaws.{get-All}
+use Rattle.accepted_interface.proofs.Unbroken.{AreClean, row-clean, not-above}
+use Rattle.accepted_interface.proofs.SoundLaws.{get-All}
 
 abbrev pub AreNamedApart : List TypeIn → Type 0
 AreNamedApart ts = (name : List ℕ) (a b : TypeIn) → Contains ts a → Contains ts b → is_named name a ≡ true → is_named name b ≡ true → a ≡ b

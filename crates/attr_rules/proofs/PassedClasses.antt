@@ -19,11 +19,11 @@ use Rattle.edl_interface.specs.declared.Class.{Class}
 use Rattle.edl_interface.specs.declared.Class.TheVariants as class
 use Rattle.edl_interface.specs.Parameters.{field_size, is_text}
 use Rattle.edl_interface.specs.Runnable.{IsPassed}
-use Rattle.attr_rules.specs.Attributes.{is_string, is_foreign_passed, is_integer_meaning, is_aggregate, is_char, is_wide, is_single_pointer, points_to, meant}
-use Rattle.attr_rules.specs.Rules.{param_rows, is_pointer_attribute, is_large_result}
-use Rattle.attr_rules.specs.Accepted.{opaque, plain_by, own_size, pointee_by, base_shape_by, base_shape, pointee_size, plain_of, size_of, shape_of, fixed_class, buffer_of, direction_of, class_of}
-use Rattle.attr_rules.proofs.Unbroken.{AreClean, row-clean, not-above}
-use Rattle.attr_rules.proofs.SoundLaws.{any-weaker, both-true, user_check-pointer, pointed-by}
+use Rattle.attr_terms.specs.Attributes.{is_string, is_foreign_passed, is_integer_meaning, is_aggregate, is_char, is_wide, is_single_pointer, points_to, meant}
+use Rattle.attr_terms.specs.Rules.{param_rows, is_pointer_attribute, is_large_result}
+use Rattle.attr_terms.specs.Accepted.{opaque, plain_by, own_size, pointee_by, base_shape_by, base_shape, pointee_size, plain_of, size_of, shape_of, fixed_class, buffer_of, direction_of, class_of}
+use Rattle.accepted_interface.proofs.Unbroken.{AreClean, row-clean, not-above}
+use Rattle.accepted_interface.proofs.SoundLaws.{any-weaker, both-true, user_check-pointer, pointed-by}
 
 or-right : (b c : Bool) → c ≡ true → (b || c) ≡ true
 or-right true c e = refl

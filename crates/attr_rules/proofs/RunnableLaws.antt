@@ -21,12 +21,12 @@ use Rattle.edl_layout.specs.Faults.{HasLayouts, IsCleanParam, IsCleanFunction}
 use Rattle.edl_interface.specs.declared.Param.{Param}
 use Rattle.edl_interface.specs.Parameters.{field_size, is_text}
 use Rattle.edl_interface.specs.Runnable.{IsPassed, IsRunnableFunction, IsRunnable, field_end}
-use Rattle.attr_rules.specs.Rules.{broken, function_rows, param_rows}
-use Rattle.attr_rules.specs.Accepted.{plain_of, size_of, shape_of, offset_behind, class_of, param_behind, params_from, frame_size, function_of, interface_of}
+use Rattle.attr_terms.specs.Rules.{broken, function_rows, param_rows}
+use Rattle.attr_terms.specs.Accepted.{plain_of, size_of, shape_of, offset_behind, class_of, param_behind, params_from, frame_size, function_of, interface_of}
 use Rattle.attr_rules.specs.ForRun.{HasSize, HasSizes, IsRead, AreForRun}
-use Rattle.attr_rules.proofs.Unbroken.{AreClean, IsUnbroken, unbroken, row-clean, clean-flat}
-use Rattle.attr_rules.proofs.Bounds.{All-front, All-behind}
-use Rattle.attr_rules.proofs.SoundLaws.{params-all, get-All}
+use Rattle.accepted_interface.proofs.Unbroken.{AreClean, IsUnbroken, unbroken, row-clean, clean-flat}
+use Rattle.accepted_interface.proofs.Bounds.{All-front, All-behind}
+use Rattle.accepted_interface.proofs.SoundLaws.{params-all, get-All}
 use Rattle.attr_rules.proofs.NamesApart.{AreNamedApart, names-apart}
 use Rattle.attr_rules.proofs.FieldEnds.{IsFine, AreFine, fine-append, end_by, end-append, le-end, within-frame, field-within}
 use Rattle.attr_rules.proofs.KnownFields.{param-fine, fields-fine, params-fine, result-fine}

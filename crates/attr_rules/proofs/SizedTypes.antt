@@ -23,7 +23,7 @@ use Rattle.edl_layout.specs.Shape.{Shape, all_known, array_shape, structure_shap
 use Rattle.edl_layout.specs.Meaning.{Meaning, Integer, Defined, Foreign, Opaque, Undeclared, Standard, standard_types, is_named, has_tag, or_else, pointed, members_of, held_by, meaning, member_shape, decl_shape, shape_within, HasShape, held, Holds}
 use Rattle.edl_layout.specs.Frame.{is_void}
 use Rattle.edl_layout.specs.Faults.{IsCleanType, is_undeclared, is_no_value}
-use Rattle.attr_rules.proofs.Unbroken.{nil-map}
+use Rattle.accepted_interface.proofs.Unbroken.{nil-map}
 
 -- ---- lists
 

@@ -1,12 +1,2 @@
-pub mod Attributes
-pub mod Kinds
-pub mod Rules
-pub mod Breaches
-pub mod Names
-pub mod Places
-pub mod Taken
-pub mod Accepted
-pub mod Sizing
-pub mod Fields
-pub mod Fitting
+pub mod Checked
 pub mod ForRun

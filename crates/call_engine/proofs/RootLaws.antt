@@ -20,7 +20,7 @@ use Rattle.edl_layout.specs.Faults.{HasLayoutFault}
 use Rattle.edl_interface.specs.declared.Interface.{Interface}
 use Rattle.attr_rules.specs.declared.RuleFault.{RuleFault}
 use Rattle.attr_rules.specs.declared.RuleFault.TheVariants.{Rule, Memory}
-use Rattle.attr_rules.specs.Accepted.{checked}
+use Rattle.attr_rules.specs.Checked.{checked}
 use Rattle.call_engine.specs.RootFile.{Told, of_lexer, of_parser, of_layouts, IsMisread, no_tokens, no_tree, second_file, IsRefused, no_layout, broken, other, IsLaidOut, no_foreign}
 
 told_by : (Is : Fault → Type 0) (e : RuleFault) → ((f : Fault) → e ≡ Rule f → Is f) → Told Is e

@@ -23,7 +23,7 @@ use Rattle.edl_layout.specs.Table.{IsTable}
 use Rattle.edl_interface.specs.declared.Interface.{Interface}
 use Rattle.attr_rules.specs.declared.RuleFault.{RuleFault}
 use Rattle.attr_rules.specs.declared.RuleFault.TheVariants.{Rule, Memory}
-use Rattle.attr_rules.specs.Accepted.{checked}
+use Rattle.attr_rules.specs.Checked.{checked}
 use Rattle.call_engine.specs.Taken.{is_taken}
 
 -- ---- what each stage tells: a fault at a place, or want of memory

@@ -6,7 +6,7 @@ ghost use Rattle.edl_lexer.specs.Bounds.{LieIn};
 ghost use Rattle.edl_lexer.specs.Lexing.{lexing};
 ghost use Rattle.edl_grammar.specs.Files.{fault_by};
 ghost use Rattle.edl_grammar.specs.Sentence.{Parses};
-ghost use Rattle.attr_rules.specs.Accepted.{checked};
+ghost use Rattle.attr_rules.specs.Checked.{checked};
 ghost use Rattle.attr_rules.specs.ForRun.{AreForRun};
 ghost use Rattle.edl_interface.specs.Sound.{IsSound};
 ghost use Rattle.edl_interface.specs.Runnable.{IsRunnable};

@@ -1,8 +1,8 @@
 use Rattle.std.proofs.Common.{◌≡◌, [], sym, subst, ◌∙◌}
 use Rattle.edl_interface.specs.Runnable.{IsRunnable}
-use Rattle.attr_rules.specs.Accepted.{size_of}
-use Rattle.attr_rules.specs.Rules.{broken}
-use Rattle.attr_rules.proofs.Unbroken.{nil-first}
+use Rattle.attr_terms.specs.Accepted.{size_of}
+use Rattle.attr_terms.specs.Rules.{broken}
+use Rattle.accepted_interface.proofs.Unbroken.{nil-first}
 use Rattle.attr_rules.proofs.RunnableLaws.{interface-runnable}
 use Rattle.attr_rules.proofs.check.Goals as goal
 

@@ -1,6 +1,0 @@
-use Rattle.std.proofs.Common.{◌≡◌, map, take}
-use Rattle.attr_rules.specs.Accepted.{ordinal_of}
-use Rattle.attr_rules.proofs.accepted.ordinals.Given as goal
-
-abbrev pub invariant-loop-x : goal.invariant-loop-x
-invariant-loop-x l = l.done ≡ map (λ x. ordinal_of l.functions.meanings.gathered.now x.name) (take l.x-index l.names)

@@ -1,5 +1,0 @@
-use Rattle.attr_rules.proofs.FieldLaws.{ends-more, place-more}
-use Rattle.attr_rules.proofs.fields.Fields.push.Goals as goal
-
-pub returns : goal.returns
-returns c = record { offset = λ fields h. rw (c.narrow.ensures, c.put-ends.ensures.place, h.ends) (place-more fields _); fields = λ fields h. record { ends = rw (c.put-ends.ensures.ends, h.ends) (ends-more fields _) } }

@@ -1,8 +1,0 @@
-use Rattle.std.proofs.Common.{◌∙◌, ap}
-use Rattle.attr_rules.specs.Names.{is_before}
-use Rattle.attr_rules.proofs.NameLaws.{second_law}
-use Rattle.attr_rules.proofs.names.Names.is_second.Goals as goal
-
-pub returns : goal.returns
-returns c = λ list h.
-    c.is_before.ensures ∙ ap (λ t. is_before t c.args.token) (c.copied.ensures ∙ c.get.ensures.value) ∙ second_law c.args.self.now c.args.token c.args.name.now list h

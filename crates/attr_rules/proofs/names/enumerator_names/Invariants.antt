@@ -1,8 +1,0 @@
-use Rattle.std.proofs.Common.{take, map}
-use Rattle.std.specs.List.{flat_map}
-use Rattle.attr_rules.specs.Names.{TellsNames}
-use Rattle.attr_rules.specs.Rules as rules
-use Rattle.attr_rules.proofs.names.enumerator_names.Given as goal
-
-abbrev pub invariant-loop-decl : goal.invariant-loop-decl
-invariant-loop-decl l = TellsNames l.names (flat_map (λ t. map rules.value_name (rules.values_of t)) (take l.decl-index l.decl-items))

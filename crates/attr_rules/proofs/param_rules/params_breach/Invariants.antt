@@ -1,8 +1,0 @@
-use Rattle.std.proofs.Common.{◌≡◌, None, take}
-use Rattle.attr_rules.specs.Breaches.{first_breach}
-use Rattle.attr_rules.specs.Rules as rules
-use Rattle.attr_rules.proofs.Firsts.{first_in}
-use Rattle.attr_rules.proofs.param_rules.params_breach.Given as goal
-
-abbrev pub invariant-loop-p : goal.invariant-loop-p
-invariant-loop-p l = first_in (λ p. first_breach (rules.param_rows l.meanings.gathered.now l.runner l.list p)) (take l.p-index l.list) ≡ None

@@ -1,6 +1,0 @@
-use Rattle.std.proofs.Common.{◌≡◌, None, take}
-use Rattle.attr_rules.proofs.TypeLaws.{first_file}
-use Rattle.attr_rules.proofs.rules.broken_types.Given as goal
-
-abbrev pub invariant-loop-number : goal.invariant-loop-number
-invariant-loop-number l = first_file 0 (take l.number l.files) ≡ None

@@ -1,0 +1,5 @@
+pub mod Lists
+pub mod Tables
+pub mod PlaceLaws
+pub mod KindLaws
+pub mod SizeLaws

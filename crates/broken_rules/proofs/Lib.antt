@@ -1,0 +1,4 @@
+pub mod Firsts
+pub mod FunctionLaws
+pub mod TypeLaws
+pub mod NameLaws
