@@ -18,6 +18,10 @@ mod ranges;
 #[cfg(test)]
 mod reports;
 #[cfg(test)]
+mod scripted_port;
+#[cfg(test)]
 mod stores;
+#[cfg(test)]
+mod switchless;
 #[cfg(test)]
 mod values;
