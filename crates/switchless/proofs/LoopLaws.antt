@@ -1,8 +1,8 @@
 -- Offers in one slot after another, and looks one after another.
-use Rattle.std.proofs.Common.{ℕ, zero, suc, ◌+◌, ◌-◌, ◌<◌, ◌≤◌, ◌≡◌, ◌==◌, Bool, true, false, if◌then◌else◌, Option, Some, None, refl, ap, sym, ◌∙◌, subst, arith}
+use Rattle.std.proofs.Common.{ℕ, zero, suc, ◌+◌, ◌-◌, ◌<◌, ◌≡◌, ◌==◌, Bool, true, false, if◌then◌else◌, Some, None, refl, sym, subst, arith}
 use Rattle.word_port.specs.declared.Side.TheVariants.{Pool}
 use Rattle.word_port.specs.Port.{PortState}
-use Rattle.word_port.specs.Interaction.{Interaction, ret, and_then}
+use Rattle.word_port.specs.Interaction.{Interaction, ret}
 use Rattle.word_port.specs.Accesses.{cas}
 use Rattle.word_port.specs.Runs.{Leads, Makes, StopsFull}
 use Rattle.word_port.proofs.Laws.{leads_nothing, leads_on, leads_then, full_on, full_first}

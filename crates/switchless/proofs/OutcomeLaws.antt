@@ -1,17 +1,17 @@
 -- Outcomes of behaviours, one after another.
-use Rattle.std.proofs.Common.{ℕ, ◌-◌, ◌<◌, ◌≤◌, ◌≡◌, Bool, true, false, Option, Some, None, Result, Ok, Err, ◌^◌, refl, ap, sym, ◌∙◌, subst, arith}
+use Rattle.std.proofs.Common.{ℕ, ◌-◌, ◌<◌, ◌≡◌, Option, Some, Result, Ok, Err, ◌^◌, refl, ap, sym, ◌∙◌, subst, arith}
 use Rattle.word_port.specs.declared.RunFull.{RunFull}
 use Rattle.word_port.specs.declared.RunFull.TheVariants.{Steps, Waited}
 use Rattle.word_port.specs.Port.{PortState}
 use Rattle.word_port.specs.Interaction.{Interaction, ret, and_then}
-use Rattle.word_port.specs.Limits.{Progress, progress}
+use Rattle.word_port.specs.Limits.{progress}
 use Rattle.word_port.specs.Runs.{Leads, Makes, Reaches, Runs, StopsFull}
 use Rattle.word_port.proofs.Laws.{makes_then, makes_ret, full_first, runs_ret, runs_then, reaches_then, stops_first, stops_second, reaches_first}
 use Rattle.word_port.proofs.EventLaws.{steps_reach, steps_stop}
 use Rattle.sgx_base.specs.declared.Status.{Status}
 use Rattle.switchless.specs.declared.Pool.{Pool as Slots}
 use Rattle.switchless.specs.declared.Sent.{Sent}
-use Rattle.switchless.specs.declared.Sent.TheVariants.{Answered, Fallback}
+use Rattle.switchless.specs.declared.Sent.TheVariants.{Answered}
 use Rattle.switchless.specs.Tasks.{task_word, sent_as}
 use Rattle.switchless.specs.Slots.{offered_word}
 use Rattle.switchless.specs.declared.Task.{Task}

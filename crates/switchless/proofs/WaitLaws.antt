@@ -1,5 +1,5 @@
 -- A loop of waiting looks, one look after another.
-use Rattle.std.proofs.Common.{◌^◌, ℕ, zero, suc, ◌+◌, ◌-◌, ◌<◌, ◌≤◌, ◌≡◌, Bool, true, false, if◌then◌else◌, refl, sym, subst, arith}
+use Rattle.std.proofs.Common.{◌^◌, ℕ, zero, suc, ◌+◌, ◌-◌, ◌<◌, ◌≤◌, ◌≡◌, Bool, true, false, if◌then◌else◌, refl, subst, arith}
 use Rattle.word_port.specs.declared.RunFull.TheVariants.{Steps, Waited}
 use Rattle.word_port.specs.Port.{PortState}
 use Rattle.word_port.specs.Events.{waiting_look}

@@ -1,6 +1,5 @@
 -- Tasks, their slots, and how callers see that they are done.
 use Rattle.std.specs.Prelude.{ℕ, ◌<◌, ◌≤◌, ◌+◌, ◌^◌, IsTrue, List, Contains, Option, Some, None}
-use Rattle.sgx_base.specs.declared.Status.{Status}
 use Rattle.word_port.specs.declared.Step.{Step}
 use Rattle.word_port.specs.declared.Side.TheVariants.{Pool}
 use Rattle.word_port.specs.Requests.{step_of, load_of}
