@@ -1,4 +1,4 @@
-//! Tables of cases over the public calls of the layers that read EDL files: tokens, trees, layouts and interfaces.
+//! Tables of cases over the public calls of the layers that read EDL files: tokens, layouts and interfaces.
 #![tactic(auto)]
 
 #[cfg(test)]
@@ -7,7 +7,5 @@ mod interfaces;
 mod layouts;
 #[cfg(test)]
 mod lexing;
-#[cfg(test)]
-mod parsing;
 #[cfg(test)]
 mod reading;
