@@ -27,9 +27,13 @@ impl Model for SharedWords {
 
     ghost Value = { TableState };
 
-    ghost view = { λ t. record { initial = t.table.shared.key.words.items; name = name_of t.table.shared.table_id } };
+    ghost view = { λ t. record {
+      initial = t.table.shared.key.words.items;
+      name = name_of t.table.shared.table_id;
+    } };
 
-    ghost invariant = { λ t. (0 < t.table.shared.table_id.words) × (t.table.shared.table_id.slots ≡ 0) × (t.table.shared.table_id.words ≡ length t.table.shared.key.words.items) };
+    ghost invariant = { λ t. (0 < t.table.shared.table_id.words) × (t.table.shared.table_id.slots ≡ 0)
+        × (t.table.shared.table_id.words ≡ length t.table.shared.key.words.items) };
 }
 
 /// The right to make steps on a table of shared words, with a log of the steps made. A seat can pass to another thread.
@@ -139,7 +143,8 @@ fn enter(log: &mut Vec<Step>, step: Step)
     }
 }
 
-/// The words as given, of which the first `host` are bytes, and the keeper: the seat that splits off and joins the others.
+/// The words as given, of which the first `host` are bytes, and the keeper: the seat that splits off and joins the
+/// others.
 /// Its log takes `limit` steps, and all memory for it is taken here. The error is that there is too little.
 pub fn make(
     alloc: Global,
@@ -170,7 +175,8 @@ pub fn make(
     Ok((SharedWords { table }, keeper))
 }
 
-/// A new seat, with an empty log that takes `limit` steps. All memory for it is taken here. The error is that there is too little.
+/// A new seat, with an empty log that takes `limit` steps. All memory for it is taken here. The error is that there is
+/// too little.
 pub fn split(
     alloc: Global,
     table: &SharedWords,
