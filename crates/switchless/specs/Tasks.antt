@@ -16,7 +16,7 @@ IsPastHost p slot = (p.host ≤ slot) × (slot < p.words)
 
 -- the slots of the pool are words past the host bytes
 abbrev pub HasSlots : PortState → Slots → Type 0
-HasSlots p pool = (p.host ≤ pool.from) × (pool.from + pool.slots ≤ p.words)
+HasSlots p pool = (place : ℕ) → place < pool.slots → IsPastHost p (pool.from + place)
 
 -- a word holds the ordinal and the frame of the task
 abbrev pub IsTask : Task → Type 0
