@@ -1,14 +1,16 @@
 //! Calls by slots: the words of slots, offers, answers, fallbacks and limits.
 
 ghost use Rattle.std.specs.Prelude.{◌≡◌};
-ghost use Rattle.switchless.specs.Tasks.{HasSlots};
+ghost use Rattle.switchless.specs.Tasks.{IsPastHost, HasSlots};
 
 use crate::scripted_port::ScriptedPort;
 use sgx_base::Status;
 use std::alloc::{AllocError, Global};
 use std::process::Abort;
 use std::test::Fail;
-use switchless::{Pool, Sent, Task, accept, call_switchless, finish, offer, scan, withdraw};
+use switchless::{
+    Pool, Sent, Task, accept, call_switchless, collect, finish, look, offer, scan, withdraw,
+};
 use word_port::{Kind, PlainWords, RunFull, Side, Step, WordPort};
 
 /// The first slot's word, behind 4 host bytes.
@@ -25,11 +27,13 @@ fn pool(slots: u32, retries: u32) -> Pool
     }
 }
 
-/// Stops where the port has no such slots.
+/// Stops where the pool has no slot, or the port has no such slots.
 fn see_slots<R: Abort, P: WordPort>(rt: &R, port: &P, pool: &Pool)
-    ensures { HasSlots (P.state port.now) pool.now }
+    ensures first { IsPastHost (P.state port.now) pool.now.from }
+    ensures slots { HasSlots (P.state port.now) pool.now }
 {
     let words = u64::from(port.words());
+    assert!(rt; pool.slots > 0);
     assert!(rt; port.host() <= pool.from);
     assert!(rt; u64::from(pool.from) + u64::from(pool.slots) <= words);
 }
@@ -102,21 +106,123 @@ fn statuses_in_slots(rt: HostRuntime) -> Result<(), Fail> {
     Ok(())
 }
 
+/// The step on the first slot by side Pool.
+fn step(kind: Kind, first: u64, second: u64, answer: u64) -> Step {
+    Step {
+        side: Side::Pool,
+        kind,
+        index: FIRST,
+        first,
+        second,
+        answer,
+    }
+}
+
+#[test]
+fn a_call_that_is_served(rt: HostRuntime) -> Result<(), Fail> {
+    let mut port = slots(rt.alloc(), [2_139_357_185, 0, 0, 0, 0, 0, 0, 0], 3)?;
+    let slot = pool(1, 0);
+    let task = Task {
+        slot: FIRST,
+        ordinal: 0,
+        frame: 0x11fe0,
+    };
+    see_slots(&rt, &port, &slot);
+    assert_eq!(rt; scan(&mut port, &slot, 0), Ok(Some(task)));
+    see_slots(&rt, &port, &slot);
+    assert_eq!(rt; accept(&mut port, &task), Ok(true));
+    see_slots(&rt, &port, &slot);
+    assert_eq!(rt; finish(&mut port, task, Status(0)), Ok(()));
+    assert_eq!(rt;
+        port.log(),
+        [
+            step(Kind::Load, 0, 0, 2_139_357_185),
+            step(Kind::Cas, 2_139_357_185, 2_139_357_186, 2_139_357_185),
+            step(Kind::Swap, 2_139_357_187, 0, 2_139_357_186),
+        ]
+        .as_slice()
+    );
+    Ok(())
+}
+
+#[test]
+fn a_call_that_is_gone(rt: HostRuntime) -> Result<(), Fail> {
+    let mut port = slots(rt.alloc(), [2_139_357_185, 0, 0, 0, 0, 0, 0, 0], 3)?;
+    let slot = pool(1, 0);
+    let task = Task {
+        slot: FIRST,
+        ordinal: 0,
+        frame: 0x11fe0,
+    };
+    see_slots(&rt, &port, &slot);
+    assert_eq!(rt; scan(&mut port, &slot, 0), Ok(Some(task)));
+    see_slots(&rt, &port, &slot);
+    assert!(rt; port.spare() > 0);
+    assert_eq!(rt; port.swap(Side::Pool, FIRST, 0), 2_139_357_185);
+    see_slots(&rt, &port, &slot);
+    assert_eq!(rt; accept(&mut port, &task), Ok(false));
+    assert_eq!(rt; port.glance(FIRST), 0);
+    assert_eq!(rt; port.spare(), 0);
+    Ok(())
+}
+
+#[test]
+fn calls_that_are_not_there(rt: HostRuntime) -> Result<(), Fail> {
+    for word in [0, 2_139_357_186, 2_139_357_187, 36_499_095_553] {
+        let mut port = slots(rt.alloc(), [word, 0, 0, 0, 0, 0, 0, 0], 1)?;
+        let slot = pool(1, 0);
+        see_slots(&rt, &port, &slot);
+        assert_eq!(rt; scan(&mut port, &slot, 0), Ok(None));
+        see_slots(&rt, &port, &slot);
+        assert_eq!(rt; scan(&mut port, &slot, 0), Err(RunFull::Steps));
+    }
+    Ok(())
+}
+
+#[test]
+fn calls_at_a_full_log(rt: HostRuntime) -> Result<(), Fail> {
+    let full = RunFull::Steps;
+    let mut port = slots(rt.alloc(), [2_139_357_187, 0, 0, 0, 0, 0, 0, 0], 1)?;
+    let slot = pool(1, 0);
+    let task = Task {
+        slot: FIRST,
+        ordinal: 0,
+        frame: 0x11fe0,
+    };
+    see_slots(&rt, &port, &slot);
+    let done = look(&mut port, &task);
+    assert_eq!(rt; done, Ok(true));
+    see_slots(&rt, &port, &slot);
+    assert_eq!(rt; collect(&mut port, task), Err(full));
+    see_slots(&rt, &port, &slot);
+    assert_eq!(rt; look(&mut port, &task), Err(full));
+    see_slots(&rt, &port, &slot);
+    assert_eq!(rt; offer(&mut port, &slot, 0, 0x11fe0), Err(full));
+    see_slots(&rt, &port, &slot);
+    assert_eq!(rt; scan(&mut port, &slot, 0), Err(full));
+    see_slots(&rt, &port, &slot);
+    assert_eq!(rt; accept(&mut port, &task), Err(full));
+    assert_eq!(rt; port.glance(FIRST), 2_139_357_187);
+    Ok(())
+}
+
 #[test]
 fn the_first_free_slot(rt: HostRuntime) -> Result<(), Fail> {
     let table = [
-        ([0; 8], Some(4), 1),
-        ([1, 5, 9, 0, 0, 1, 1, 1], Some(7), 4),
-        ([1, 2, 3, 1, 2, 3, 1, 0], Some(11), 8),
-        ([1, 2, 3, 1, 2, 3, 1, 2], None, 8),
+        ([0; 8], 20, Ok(Some(4)), 1),
+        ([1, 5, 9, 0, 0, 1, 1, 1], 20, Ok(Some(7)), 4),
+        ([1, 5, 9, 0, 0, 1, 1, 1], 3, Err(RunFull::Steps), 3),
+        ([1, 2, 3, 1, 2, 3, 1, 0], 20, Ok(Some(11)), 8),
+        ([1, 2, 3, 1, 2, 3, 1, 2], 20, Ok(None), 8),
+        ([0; 8], 0, Err(RunFull::Steps), 0),
     ];
-    for (words, slot, steps) in table {
-        let mut port = slots(rt.alloc(), words, 20)?;
+    for (words, limit, slot, steps) in table {
+        let mut port = slots(rt.alloc(), words, limit)?;
         let all = pool(8, 0);
         see_slots(&rt, &port, &all);
         let offered = offer(&mut port, &all, 7, 0);
-        assert_eq!(rt; offered.map(|task| task.map(|t| t.slot)), Ok(slot));
-        assert_eq!(rt; port.spare(), 20 - steps);
+        assert_eq!(rt; offered.map(|task| task.map(|t| t.slot)), slot);
+        assert_eq!(rt; port.spare(), limit - steps);
     }
     Ok(())
 }
@@ -160,17 +266,14 @@ fn steps_are_by_the_pool(rt: HostRuntime) -> Result<(), Fail> {
     assert_eq!(rt; withdraw(&mut port, &task), Ok(false));
     see_slots(&rt, &port, &slot);
     assert_eq!(rt; withdraw(&mut port, &task), Err(RunFull::Steps));
-    let step = |first, second, answer| Step {
-        side: Side::Pool,
-        kind: Kind::Cas,
-        index: FIRST,
-        first,
-        second,
-        answer,
-    };
     assert_eq!(rt;
         port.log(),
-        [step(0, 1, 0), step(1, 0, 1), step(1, 0, 0)].as_slice()
+        [
+            step(Kind::Cas, 0, 1, 0),
+            step(Kind::Cas, 1, 0, 1),
+            step(Kind::Cas, 1, 0, 0),
+        ]
+        .as_slice()
     );
     Ok(())
 }
