@@ -5,3 +5,4 @@ pub mod FieldEnds
 pub mod KnownFields
 pub mod PassedClasses
 pub mod RunnableLaws
+pub mod FieldOrder

@@ -61,14 +61,14 @@ picked-has P t p side files all f e = by (slice_get files p.file) refl e
     by (Some s) is e = at-place s (get-All (λ (s : SourceFile). All P (side s)) files p.file s all is) (slice_get (side s) p.index) refl e
 
 -- on one side, with sizes
-abbrev IsOn : Bool → FunctionIn → Type 0
+abbrev pub IsOn : Bool → FunctionIn → Type 0
 IsOn t f = (f.is_trusted ≡ t) × HasSizes f.decl
 
-trusted-side : (g : Gathered) → All (λ f. IsRead f.tree) g.files → All (IsOn true) (trusted_of g)
+pub trusted-side : (g : Gathered) → All (λ f. IsRead f.tree) g.files → All (IsOn true) (trusted_of g)
 trusted-side g trees =
     All-found (IsOn true) (trusted_pick g) (λ p f e. picked-has HasSizes true p (λ s. s.tree.trusted) g.files (All-weaker (λ (s : SourceFile). IsRead s.tree) (λ s. All HasSizes s.tree.trusted) (λ s r. r.trusted) g.files trees) f e) g.trusted
 
-untrusted-side : (g : Gathered) → All (λ f. IsRead f.tree) g.files → All (IsOn false) (untrusted_of g)
+pub untrusted-side : (g : Gathered) → All (λ f. IsRead f.tree) g.files → All (IsOn false) (untrusted_of g)
 untrusted-side g trees =
     All-found (IsOn false) (untrusted_pick g) (λ p f e. picked-has HasSizes false p (λ s. s.tree.untrusted) g.files (All-weaker (λ (s : SourceFile). IsRead s.tree) (λ s. All HasSizes s.tree.untrusted) (λ s r. r.untrusted) g.files trees) f e) g.untrusted
 

@@ -2,3 +2,4 @@ pub mod Lengths
 pub mod Parameters
 pub mod Sound
 pub mod Runnable
+pub mod Order
