@@ -7,10 +7,11 @@ use Rattle.edl_interface.specs.declared.Param.{Param}
 use Rattle.edl_interface.specs.declared.Class.{Class}
 use Rattle.edl_interface.specs.declared.Class.TheVariants.{Plain as by_value, UserCheck, Buffer as a_buffer, Text, Fixed, Foreign}
 use Rattle.edl_interface.specs.declared.Function.{Function}
+use Rattle.edl_interface.specs.Order.{AreInOrder}
 use Rattle.edl_interface.specs.Parameters.{is_marshalled, field_size}
 use Rattle.enclave_memory.specs.Arguments.{Argument, number, bytes}
 use Rattle.ocall_frames.specs.Frames.{numbers_structure, with_number, Buffer, buffers_from}
-use Rattle.bridge_laws.specs.Proxy.{content_of, laid, AreFit, AreInOrder, AreFieldsApart}
+use Rattle.bridge_laws.specs.Proxy.{content_of, laid, AreFit, AreFieldsApart}
 
 length-low_bytes : (count n : ℕ) → length (low_bytes count n) ≡ count
 length-low_bytes zero n = refl

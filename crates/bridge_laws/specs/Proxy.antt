@@ -1,11 +1,11 @@
 -- What the instructions of an OCALL's proxy do: each over where the proxy stands, and a list one after another.
-use Rattle.std.specs.Prelude.{ℕ, ◌≡◌, ◌≤◌, ◌+◌, ◌==◌, ◌&&◌, not, Bool, true, false, if◌then◌else◌, List, [], ◌∷◌, ◌++◌, length, map, replicate, zip, fold, flat_map, Option, Some, None, slice_get, slice_set, Result, Ok, Err}
+use Rattle.std.specs.Prelude.{ℕ, ◌≡◌, ◌+◌, ◌==◌, ◌&&◌, not, Bool, true, false, if◌then◌else◌, List, [], ◌∷◌, ◌++◌, length, map, replicate, zip, fold, flat_map, Option, Some, None, slice_get, slice_set, Result, Ok, Err}
 use Rattle.sgx_base.specs.Bytes.{low_bytes, with_bytes_at}
 use Rattle.sgx_base.specs.declared.Status.{Status}
 use Rattle.sgx_base.specs.declared.TheConstants.Status.{SUCCESS, UNEXPECTED, INVALID_PARAMETER}
 use Rattle.edl_interface.specs.declared.Param.{Param}
 use Rattle.edl_interface.specs.declared.Function.{Function}
-use Rattle.edl_interface.specs.Parameters.{is_marshalled, field_size, return_size}
+use Rattle.edl_interface.specs.Parameters.{is_marshalled, return_size}
 use Rattle.word_port.specs.declared.Side.TheVariants.{Enclave}
 use Rattle.word_port.specs.Interaction.{Interaction, ret, here, and_then, map_value}
 use Rattle.word_port.specs.Accesses.{loads, stores}
@@ -154,11 +154,6 @@ AreFit [] [] = Unit {0}
 AreFit (p ∷ params) (number n ∷ arguments) = (is_marshalled p.class ≡ false) × AreFit params arguments
 AreFit (p ∷ params) (bytes block ∷ arguments) = (is_marshalled p.class ≡ true) × AreFit params arguments
 AreFit _ _ = ⊥
-
--- each field begins at or after the end of the one before it, and ends within so many bytes
-abbrev pub AreInOrder : ℕ → ℕ → List Param → Type 0
-AreInOrder from size [] = Unit {0}
-AreInOrder from size (p ∷ params) = (from ≤ p.offset) × (p.offset + field_size p.class ≤ size) × AreInOrder (p.offset + field_size p.class) size params
 
 -- what is known of an OCALL at its end
 abbrev pub done_of : Result ProxyState Status → Result OcallDone Status

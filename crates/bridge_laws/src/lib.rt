@@ -3,6 +3,7 @@
 
 ghost use Rattle.std.specs.Prelude.{ℕ, ◌≡◌, true, false, List, length, Some};
 ghost use Rattle.edl_interface.specs.declared.Function.{Function};
+ghost use Rattle.edl_interface.specs.Order.{AreInOrder};
 ghost use Rattle.edl_interface.specs.Parameters.{has_frame};
 ghost use Rattle.edl_interface.specs.Runnable.{IsRunnableFunction};
 ghost use Rattle.enclave_memory.specs.Arguments.{Argument};
@@ -13,7 +14,7 @@ ghost use Rattle.call_machine.specs.Ocall.{Handlers, ocall_or_refusal};
 ghost use Rattle.bridge_laws.specs.Examples.{Examples};
 ghost use Rattle.bridge_program.specs.Lists.{ecall_list, ocall_list};
 ghost use Rattle.bridge_laws.specs.Meaning.{entry_by_list};
-ghost use Rattle.bridge_laws.specs.Proxy.{ocall_by_list, AreFieldsApart, AreFit, AreInOrder};
+ghost use Rattle.bridge_laws.specs.Proxy.{ocall_by_list, AreFieldsApart, AreFit};
 
 /// The list of an ECALL's bridge does what an entry of its function is defined to do, whatever OCALLs do.
 pub fn ecall_list_law()

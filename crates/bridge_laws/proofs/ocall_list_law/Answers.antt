@@ -1,6 +1,7 @@
 use Rattle.std.proofs.Common.{ℕ, suc, ◌≡◌, Bool, true, false, if◌then◌else◌, List, [], ◌∷◌, length, Some, refl, ap, ◌∙◌}
 use Rattle.edl_interface.specs.declared.Param.{Param}
 use Rattle.edl_interface.specs.declared.Function.{Function}
+use Rattle.edl_interface.specs.Order.{AreInOrder}
 use Rattle.edl_interface.specs.Parameters.{has_frame}
 use Rattle.edl_interface.specs.Runnable.{IsRunnableFunction}
 use Rattle.enclave_memory.specs.Arguments.{Argument, number, bytes}
@@ -9,7 +10,7 @@ use Rattle.call_machine.specs.Context.{Context}
 use Rattle.call_machine.specs.Ocall.{Handlers, ocall_or_refusal}
 use Rattle.bridge_program.specs.declared.Instr.TheVariants.{OBegin, OEnter, OEnd}
 use Rattle.bridge_program.specs.Lists.{frame_list, ocall_list}
-use Rattle.bridge_laws.specs.Proxy.{ocall_by_list, AreFit, AreInOrder}
+use Rattle.bridge_laws.specs.Proxy.{ocall_by_list, AreFit}
 use Rattle.bridge_laws.proofs.Bare.{bare_is_ocall}
 use Rattle.bridge_laws.proofs.Fields.{fields_apart}
 use Rattle.bridge_laws.proofs.ProxyWhole.{frame_list_is_ocall}
