@@ -68,3 +68,11 @@ impl Records {
         self.items[place as usize] = item;
     }
 }
+
+/// Asks for a type whose values may be moved to other threads and lent to them.
+fn crosses_threads<T: Send + Sync>() {}
+
+/// Records do.
+fn records_cross_threads() {
+    crosses_threads::<Records>();
+}
