@@ -27,3 +27,6 @@ pub struct Machine {
     pub interface: Interface,
     pub script: Script,
 }
+
+/// Asks for a type whose values may be moved to other threads and lent to them.
+fn crosses_threads<T: Send + Sync>() {}

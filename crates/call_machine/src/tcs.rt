@@ -1,5 +1,6 @@
 //! A thread control structure: what a participant has of the enclave, and its part of the host stack.
 
+use crate::crosses_threads;
 use bridge_program::CallStack;
 use enclave_memory::Arena;
 use ocall_frames::HostStack;
@@ -57,4 +58,9 @@ impl Tcs {
             waits,
         })
     }
+}
+
+/// A thread control structure may be moved to other threads and lent to them.
+fn tcs_crosses_threads() {
+    crosses_threads::<Tcs>();
 }
