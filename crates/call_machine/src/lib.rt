@@ -30,3 +30,8 @@ pub struct Machine {
 
 /// Asks for a type whose values may be moved to other threads and lent to them.
 fn crosses_threads<T: Send + Sync>() {}
+
+/// A machine, with its interface and its script, does.
+fn machines_cross_threads() {
+    crosses_threads::<Machine>();
+}
