@@ -228,6 +228,24 @@ fn the_first_free_slot(rt: HostRuntime) -> Result<(), Fail> {
 }
 
 #[test]
+fn a_pool_of_no_slots(rt: HostRuntime) -> Result<(), Fail> {
+    for from in [0, FIRST, u32::MAX] {
+        let mut port = slots(rt.alloc(), [0; 8], 0)?;
+        let mut waits = 2;
+        let none = Pool {
+            from,
+            slots: 0,
+            retries: 3,
+        };
+        assert_eq!(rt; offer(&mut port, &none, 0, 0), Ok(None));
+        let sent = call_switchless(&mut port, &none, 0, 0, &mut waits);
+        assert_eq!(rt; sent, Ok(Sent::Fallback));
+        assert_eq!(rt; waits, 2);
+    }
+    Ok(())
+}
+
+#[test]
 fn calls_that_no_worker_takes(rt: HostRuntime) -> Result<(), Fail> {
     let table = [
         (0, 0, 10, Ok(Sent::Fallback), 2),
