@@ -20,8 +20,8 @@ mod reports;
 #[cfg(test)]
 mod scripted_port;
 #[cfg(test)]
-mod stores;
+mod slots;
 #[cfg(test)]
-mod switchless;
+mod stores;
 #[cfg(test)]
 mod values;
