@@ -26,7 +26,7 @@ use denote.Slice.{finally}
 use Rattle.core.proofs.alloc.Calls.{Answer, answer_val, got}
 use Rattle.core.specs.Allocator.{block_if_ok}
 use Rattle.core.specs.declared.result.Result.TheVariants.{Ok, Err}
-use Rattle.libc.specs.Heap.{chunk}
+use Rattle.enclave_memory.specs.Region.{right_to_free}
 use Rattle.enclave_memory.specs.contracts.region.Region as C
 
 module _ {M : Type 1} {𝓤 : Ura M} (𝓛 : Logic 𝓤) where
@@ -74,13 +74,13 @@ module _ {M : Type 1} {𝓤 : Ura M} (𝓛 : Logic 𝓤) where
 
   -- what the heap answered, by a flag and a place
   abbrev pub Answered : Ty → Val → Bool × (ℕ × ℕ) → SProp 𝓤
-  Answered τ v c = guard 𝓤 (v ≡ answer_val c.0 c.1.0 c.1.1) (sem 𝓛 (got chunk τ c.0 c.1.0 c.1.1))
+  Answered τ v c = guard 𝓤 (v ≡ answer_val c.0 c.1.0 c.1.1) (sem 𝓛 (got right_to_free τ c.0 c.1.0 c.1.1))
 
-  pub answered : (τ : Ty) (v : Val) (r : Answer.Denot) → ent 𝓤 (sep 𝓤 (sem 𝓛 (Answer.own_val r (v ∷ []))) (sem 𝓛 (block_if_ok chunk τ r))) (ex 𝓤 (Answered τ v))
+  pub answered : (τ : Ty) (v : Val) (r : Answer.Denot) → ent 𝓤 (sep 𝓤 (sem 𝓛 (Answer.own_val r (v ∷ []))) (sem 𝓛 (block_if_ok right_to_free τ r))) (ex 𝓤 (Answered τ v))
   answered τ v (Ok r) =
-      qed 𝓛 (‵ (Answer.own_val (Ok r) (v ∷ [])) ∷ ‵ (fsep (room_for τ r) (chunk τ r)) ∷ []) ∵
+      qed 𝓛 (‵ (Answer.own_val (Ok r) (v ∷ [])) ∷ ‵ (fsep (room_for τ r) (right_to_free τ r)) ∷ []) ∵
       fpick ! (λ us. fsplit ! $ feq_l ! (λ e. fpick ! (λ vss. fsplit ! $ feq_l ! (λ e'. fsplit ! $ feq_l ! (λ e''. drop ! $
-      in_a_block ! r (λ z. fsep (room_for τ z) (chunk τ z)) (fst∗ 𝓤 (never 𝓤) (sem 𝓛 (chunk τ null_ptr))) (λ b o at.
+      in_a_block ! r (λ z. fsep (room_for τ z) (right_to_free τ z)) (fst∗ 𝓤 (never 𝓤) (sem 𝓛 (right_to_free τ null_ptr))) (λ b o at.
       show ! (Answered τ v) (true, (b, o)) $
       check ! (ap only e ∙ ap (λ (ws : List Val). live 0 (of_list ws)) (e' ∙ ap (λ (ws : List Val). ws ++ []) (e'' ∙ ap (λ (z : Ptr). ptr_val z ∷ []) at))) $ done !))))))
   answered τ v (Err n) =
@@ -91,12 +91,12 @@ module _ {M : Type 1} {𝓤 : Ura M} (𝓛 : Logic 𝓤) where
 
 module _ {M : Type 1} {𝓤 : Ura M} {𝓛 : Logic 𝓤} {K : Type 0} {Γ : List (Item 𝓤)} {G : Goal 𝓤 𝓛.H} where
   answers_at : (τ : Ty) (v : Val) (y : Bool) (b o : ℕ) → K → v ≡ answer_val y b o
-      → ((b o : ℕ) → v ≡ answer_val true b o → Seq K 𝓛 (‵ (froom τ b o) ∷ ‵ (chunk τ (block_ptr b o)) ∷ Γ) G) → (v ≡ answer_val false 0 0 → Seq K 𝓛 Γ G) → Seq K 𝓛 (‵ (got chunk τ y b o) ∷ Γ) G
+      → ((b o : ℕ) → v ≡ answer_val true b o → Seq K 𝓛 (‵ (froom τ b o) ∷ ‵ (right_to_free τ (block_ptr b o)) ∷ Γ) G) → (v ≡ answer_val false 0 0 → Seq K 𝓛 Γ G) → Seq K 𝓛 (‵ (got right_to_free τ y b o) ∷ Γ) G
   answers_at τ v true b o t e ok none = fsplit t $ ok b o e
   answers_at τ v false b o t e ok none = drop t $ none e
 
   -- a proof's step: the two cases of what the heap answered
   pub answers : K → (τ : Ty) (v : Val)
-      → ((b o : ℕ) → v ≡ answer_val true b o → Seq K 𝓛 (‵ (froom τ b o) ∷ ‵ (chunk τ (block_ptr b o)) ∷ Γ) G) → (v ≡ answer_val false 0 0 → Seq K 𝓛 Γ G)
-      → Seq K 𝓛 (some (λ (c : Bool × (ℕ × ℕ)). given (v ≡ answer_val c.0 c.1.0 c.1.1) (‵ (got chunk τ c.0 c.1.0 c.1.1))) ∷ Γ) G
+      → ((b o : ℕ) → v ≡ answer_val true b o → Seq K 𝓛 (‵ (froom τ b o) ∷ ‵ (right_to_free τ (block_ptr b o)) ∷ Γ) G) → (v ≡ answer_val false 0 0 → Seq K 𝓛 Γ G)
+      → Seq K 𝓛 (some (λ (c : Bool × (ℕ × ℕ)). given (v ≡ answer_val c.0 c.1.0 c.1.1) (‵ (got right_to_free τ c.0 c.1.0 c.1.1))) ∷ Γ) G
   answers t τ v ok none = pick t (λ c. learn t (λ e. answers_at τ v c.0 c.1.0 c.1.1 t e ok none))

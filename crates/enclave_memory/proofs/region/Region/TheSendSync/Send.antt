@@ -7,8 +7,8 @@ use denote.Builtin.{u8}
 use denote.Param.Send.{IsSend, part_keyless, array_send, owning_send, sendable}
 use denote.RawPtr.{Ptr, block_ptr, null_ptr, lies_at}
 use denote.Builtin.{RawPtr, usize}
-use Rattle.libc.specs.Heap.{chunk-Keyless}
-use Rattle.enclave_memory.specs.Region.{block_of}
+use Rattle.std.proofs.Crossing.{frees}
+use Rattle.enclave_memory.specs.Region.{block_of, heap}
 use Rattle.enclave_memory.specs.contracts.region.Region as C
 
 u8-send : IsSend u8
@@ -25,4 +25,4 @@ lies (block_ptr b o) n bytes = part_keyless (Array u8 n) (array_send u8 n u8-sen
 lies null_ptr n bytes = tt
 
 pub send : IsSend C.the_row
-send = owning_send C.the_type (pointer, (word, tt)) (λ r. (lies r.at r.size r.bytes, chunk-Keyless (block_of r.size) r.at)) (λ k x w. tt)
+send = owning_send C.the_type (pointer, (word, tt)) (λ r. (lies r.at r.size r.bytes, frees.frees heap (block_of r.size) r.at)) (λ k x w. tt)

@@ -31,11 +31,10 @@ use denote.Triple.Spec.{triple_of}
 use denote.Triple.Table.{framed}
 use denote.Triple.Walked.{Stays, walk_of, stay_dropped, Goes-dropped}
 use Rattle.core.proofs.alloc.Calls.{Goes-blank}
-use Rattle.libc.specs.Heap.{chunk}
 use Rattle.std_heap.specs.contracts.Global.{the_row as Heap}
 use Rattle.std_heap.specs.contracts.GlobalAllocator.deallocate as g
 use Rattle.std_heap.proofs.GlobalAllocator.deallocate.Met.{met}
-use Rattle.enclave_memory.specs.Region.{block_of, owned as held}
+use Rattle.enclave_memory.specs.Region.{block_of, owned as held, right_to_free}
 use Rattle.enclave_memory.specs.contracts.region.Region.{the_row as R}
 use Rattle.enclave_memory.specs.contracts.region.Region.free as f
 use Rattle.enclave_memory.proofs.region.Region.TheLaws.{lowers}
@@ -60,7 +59,7 @@ free_spec 𝓤 𝓛 𝓜 𝓡 wired =
     let y : W.Ghost = ((κs, qs, bounds, a, vs), tt) in
     qed 𝓛 (((‵ (flft κ q) ⊛ ‵ ftrue) ⊛ ‵ (owns (types_at f.ended.signature.params κs) a vs)) ∷ ‵ ftrue ∷ []) ∵
     split ! $ split ! $ move ! (2 ∷ []) $ fsplit ! $ fsplit ! $ move ! (1 ∷ []) $
-    in_a_block ! h.at (λ p. held p n xs) (fst∗ 𝓤 (never 𝓤) (sem 𝓛 (chunk τ null_ptr))) (λ b o e. fsplit ! $
+    in_a_block ! h.at (λ p. held p n xs) (fst∗ 𝓤 (never 𝓤) (sem 𝓛 (right_to_free τ null_ptr))) (λ b o e. fsplit ! $
     -- [the bytes; the right to free; what the fields own; the other parameters; the token; ..]
     move ! (3 ∷ []) $ fsplit ! $ keep ! (2 ∷ 3 ∷ 0 ∷ 5 ∷ []) $
     use1 𝓛 (‵ (fsep (feq ℕ (length xs) n) (bytes full_share xs b o))) (bytes_apart 𝓛 full_share n xs b o) $ fsplit ! $ feq_l ! (λ _.

@@ -47,11 +47,10 @@ use Rattle.core.specs.Allocator.{block_if_ok}
 use Rattle.core.specs.contracts.alloc.AllocError as AE
 use Rattle.core.specs.contracts.result.Result as RS
 use Rattle.core.specs.declared.result.Result.TheVariants.{Ok, Err}
-use Rattle.libc.specs.Heap.{chunk}
 use Rattle.std_heap.specs.contracts.Global.{the_row as Heap}
 use Rattle.std_heap.specs.contracts.GlobalAllocator.allocate as g
 use Rattle.std_heap.proofs.GlobalAllocator.allocate.Met.{met}
-use Rattle.enclave_memory.specs.Region.{block_of}
+use Rattle.enclave_memory.specs.Region.{block_of, right_to_free}
 use Rattle.enclave_memory.specs.contracts.region.Region as C
 use Rattle.enclave_memory.specs.contracts.region.Region.new as f
 use Rattle.enclave_memory.proofs.Walks.{zero_more, one_byte, words_made, answered, answers}
@@ -107,13 +106,13 @@ new_spec 𝓤 𝓛 𝓜 𝓡 wired =
     calls_at ! (framed 𝓤 𝓛.H 𝓜 𝓣) G (met 𝓤 𝓛 𝓜 𝓡 (code.calls-std_heap::GlobalAllocator::allocate 𝓡.env wired)) z
     (and_then ! (get ! refl) (and_then ! (get ! refl) (and_then ! (lit ! tt) (no_more !)))) (λ v.
     use1 𝓛 (later (some (λ (r : Answer.Denot). ((‵ (flft κ q) ⊛ ‵ ftrue) ⊛ ‵ (Answer.own_val r (v ∷ []))) ⊛
-    some (λ (ws : Unit {0} × (Unit {0} × (Unit {0} × Unit {0}))). ‵ (lasts g.ended z.0.0 z.0.3 ws) ⊛ ‵ (block_if_ok chunk τ r))))) (id⊢ 𝓤 _) $
+    some (λ (ws : Unit {0} × (Unit {0} × (Unit {0} × Unit {0}))). ‵ (lasts g.ended z.0.0 z.0.3 ws) ⊛ ‵ (block_if_ok right_to_free τ r))))) (id⊢ 𝓤 _) $
     await ! tt $ pick ! (λ r. split ! $ split ! $ move ! (2 ∷ []) $ pick ! (λ ws. split ! $ drop ! $ move ! (2 ∷ 0 ∷ []) $
-    use2 𝓛 (some (λ (k : Bool × (ℕ × ℕ)). given (v ≡ answer_val k.0 k.1.0 k.1.1) (‵ (got chunk τ k.0 k.1.0 k.1.1)))) (answered 𝓛 τ v r) $
+    use2 𝓛 (some (λ (k : Bool × (ℕ × ℕ)). given (v ≡ answer_val k.0 k.1.0 k.1.1) (‵ (got right_to_free τ k.0 k.1.0 k.1.1)))) (answered 𝓛 τ v r) $
     let Post = at_return 𝓤 𝓛.H En (W.post y) in let Then = any_q (after_seq 𝓤 𝓛.H (Wp 𝓤 𝓛.H 𝓣.C 𝓣.Λ En code.Mir.t-3 Post) Post) in
     -- [what the heap answered; the tokens]
     answers ! τ v (λ b o e.
-    let Now : Zeroed n → List (Item 𝓤) = λ t. ‵ (bytes full_share (replicate t.0 0) b o) ∷ ‵ (froom (ty_array (ty_int w8) (n - t.0)) b (t.0 + o)) ∷ ‵ (chunk τ (block_ptr b o)) ∷ (‵ (flft κ q) ⊛ ‵ ftrue)
+    let Now : Zeroed n → List (Item 𝓤) = λ t. ‵ (bytes full_share (replicate t.0 0) b o) ∷ ‵ (froom (ty_array (ty_int w8) (n - t.0)) b (t.0 + o)) ∷ ‵ (right_to_free τ (block_ptr b o)) ∷ (‵ (flft κ q) ⊛ ‵ ftrue)
     ∷ holding 𝓛 En ((2, vint w64 n) ∷ (3, vptr b o) ∷ (6, vint w64 t.0) ∷ []) in
     let Turned : Zeroed n → Out → SProp 𝓤 = λ t. after_turn 𝓤 𝓛.H (Below 𝓛 (Nearer n) Now t) (after_block 𝓤 𝓛.H (after_seq 𝓤 𝓛.H (Wp 𝓤 𝓛.H 𝓣.C 𝓣.Λ En code.Mir.t-6 Post) Post)) in
     let made : C.the_row.Denot = record { at = block_ptr b o; size = n; bytes = replicate n 0; counted = sym (length-replicate n 0); small = asked } in

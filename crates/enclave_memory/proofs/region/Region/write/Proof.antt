@@ -33,8 +33,7 @@ use denote.Triple.Spec.{triple_of}
 use denote.Triple.Table.{framed}
 use denote.Triple.Walked.{Stays, walk_of, says, stay_ref, stay_dropped, Goes-ref, Goes-dropped, ends_at}
 use Rattle.sgx_base.specs.Bytes.{with_bytes_at}
-use Rattle.libc.specs.Heap.{chunk}
-use Rattle.enclave_memory.specs.Region.{block_of, owned as held}
+use Rattle.enclave_memory.specs.Region.{block_of, owned as held, right_to_free}
 use Rattle.enclave_memory.specs.contracts.region.Region.{the_row as R}
 use Rattle.enclave_memory.specs.contracts.region.Region.write as f
 use Rattle.enclave_memory.specs.contracts.region.put as g
@@ -70,7 +69,7 @@ write_spec 𝓤 𝓛 𝓜 𝓡 wired =
     enter ! _ _ _ _ _ $ alloc_all ! (λ l. pass_all ! refl ((tt, tt), ((tt, record { fits = ff }), ((tt, (tt, (record { fits = fo }, tt))), tt))) $
     fsplit3 ! $ move ! (1 ∷ 2 ∷ 3 ∷ []) $ opens ! tt R b o (λ us.
     move ! (1 ∷ []) $ peeks ! R _ (shows 𝓛 R) h us (λ known. fsplit ! $ move ! (1 ∷ []) $
-    in_a_block ! h.at (λ p. held p h.size xs) (fst∗ 𝓤 (never 𝓤) (sem 𝓛 (chunk (block_of h.size) null_ptr))) (λ b' o' e. fsplit ! $
+    in_a_block ! h.at (λ p. held p h.size xs) (fst∗ 𝓤 (never 𝓤) (sem 𝓛 (right_to_free (block_of h.size) null_ptr))) (λ b' o' e. fsplit ! $
     -- [the bytes; the right to free; what the fields own; the struct's cell; the open borrow, in three entries]
     let word = lowers.val_is h us known ∙ ap (λ (p : Ptr). lowers.lowered (record h { at = p }) ∷ []) e in
     let Cell = λ (ws : List Val). ‵ (cell_at full_share R.mir ws b o) in
