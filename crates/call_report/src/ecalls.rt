@@ -29,7 +29,9 @@ fn append_in_line<'a>(
     steps: &'a [Step],
     param: &Param,
 ) -> Result<&'a [Step], AllocError>
-    ensures { IfOk result (λ rest. (more : List ParamValue) → out.new.items ++ ecall_in_lines function.now frame.now rest.now 0 more ≡ out.old.items ++ ecall_in_lines function.now frame.now steps.now 0 (param.now ∷ more)) }
+    ensures { IfOk result (λ rest. (more : List ParamValue)
+        → out.new.items ++ ecall_in_lines function.now frame.now rest.now 0 more
+        ≡ out.old.items ++ ecall_in_lines function.now frame.now steps.now 0 (param.now ∷ more)) }
 {
     let name = param.name.bytes();
     let length = function.copied_length(frame, param);
@@ -59,7 +61,8 @@ fn append_in_lines(
     log: &[Step],
     at: usize,
 ) -> Result<(), AllocError>
-    ensures { OnOk result (out.new.items ≡ out.old.items ++ ecall_in_lines function.now frame.now log.now at function.now.params) }
+    ensures { OnOk result (out.new.items
+        ≡ out.old.items ++ ecall_in_lines function.now frame.now log.now at function.now.params) }
 {
     let mut rest = after(log, at);
     for param in function.params.as_slice() {
@@ -77,7 +80,9 @@ fn append_out_line<'a>(
     steps: &'a [Step],
     param: &Param,
 ) -> Result<&'a [Step], AllocError>
-    ensures { IfOk result (λ rest. (more : List ParamValue) → out.new.items ++ ecall_out_lines function.now frame.now rest.now 0 more ≡ out.old.items ++ ecall_out_lines function.now frame.now steps.now 0 (param.now ∷ more)) }
+    ensures { IfOk result (λ rest. (more : List ParamValue)
+        → out.new.items ++ ecall_out_lines function.now frame.now rest.now 0 more
+        ≡ out.old.items ++ ecall_out_lines function.now frame.now steps.now 0 (param.now ∷ more)) }
 {
     let length = function.copied_length(frame, param);
     if param.class.is_out() && length != Some(0) {
@@ -103,7 +108,8 @@ fn append_out_lines(
     log: &[Step],
     at: usize,
 ) -> Result<(), AllocError>
-    ensures { OnOk result (out.new.items ≡ out.old.items ++ ecall_out_lines function.now frame.now log.now at function.now.params) }
+    ensures { OnOk result (out.new.items
+        ≡ out.old.items ++ ecall_out_lines function.now frame.now log.now at function.now.params) }
 {
     let mut rest = after(log, at);
     for param in function.params.as_slice() {

@@ -19,7 +19,8 @@ fn buffer_length(
     param: &Param,
     buffers: &[u8],
 ) -> Option<u64>
-    ensures { SomeIff result (buffer_length_of function.now structure.now param.now buffers.now < 2 ^ 64) (buffer_length_of function.now structure.now param.now buffers.now) }
+    ensures { SomeIff result (buffer_length_of function.now structure.now param.now buffers.now < 2 ^ 64)
+        (buffer_length_of function.now structure.now param.now buffers.now) }
 {
     if param.address(structure) == 0 {
         Some(0)
@@ -71,7 +72,9 @@ fn append_in_line<'a>(
     buffers: &'a [u8],
     param: &Param,
 ) -> Result<&'a [u8], AllocError>
-    ensures { IfOk result (λ rest. (more : List ParamValue) → out.new.items ++ ocall_in_lines function.now structure.now rest.now more ≡ out.old.items ++ ocall_in_lines function.now structure.now buffers.now (param.now ∷ more)) }
+    ensures { IfOk result (λ rest. (more : List ParamValue)
+        → out.new.items ++ ocall_in_lines function.now structure.now rest.now more
+        ≡ out.old.items ++ ocall_in_lines function.now structure.now buffers.now (param.now ∷ more)) }
 {
     let name = param.name.bytes();
     if !param.class.is_marshalled() {
@@ -98,7 +101,8 @@ fn append_in_lines(
     structure: &[u8],
     buffers: &[u8],
 ) -> Result<(), AllocError>
-    ensures { OnOk result (out.new.items ≡ out.old.items ++ ocall_in_lines function.now structure.now buffers.now function.now.params) }
+    ensures { OnOk result (out.new.items
+        ≡ out.old.items ++ ocall_in_lines function.now structure.now buffers.now function.now.params) }
 {
     let mut rest = buffers;
     for param in function.params.as_slice() {
@@ -117,7 +121,11 @@ fn append_out_line<'a>(
     steps: &'a [Step],
     param: &Param,
 ) -> Result<&'a [Step], AllocError>
-    ensures { IfOk result (λ rest. (more : List ParamValue) → out.new.items ++ ocall_out_lines function.now structure.now (buffers_after_of function.now structure.now param.now buffers.now) rest.now 0 more ≡ out.old.items ++ ocall_out_lines function.now structure.now buffers.now steps.now 0 (param.now ∷ more)) }
+    ensures { IfOk result (λ rest. (more : List ParamValue)
+        → out.new.items
+        ++ ocall_out_lines function.now structure.now
+        (buffers_after_of function.now structure.now param.now buffers.now) rest.now 0 more
+        ≡ out.old.items ++ ocall_out_lines function.now structure.now buffers.now steps.now 0 (param.now ∷ more)) }
 {
     let length = buffer_length(function, structure, param, buffers);
     if !param.class.is_marshalled() {
@@ -144,7 +152,8 @@ fn append_out_lines(
     log: &[Step],
     at: usize,
 ) -> Result<(), AllocError>
-    ensures { OnOk result (out.new.items ≡ out.old.items ++ ocall_out_lines function.now structure.now buffers.now log.now at function.now.params) }
+    ensures { OnOk result (out.new.items
+        ≡ out.old.items ++ ocall_out_lines function.now structure.now buffers.now log.now at function.now.params) }
 {
     let mut rest = after(log, at);
     let mut buffers_left = buffers;
@@ -166,7 +175,11 @@ fn append_answer_lines(
     log: &[Step],
     call: &CallRecord,
 ) -> Result<(), AllocError>
-    ensures { OnOk result (out.new.items ≡ out.old.items ++ (if call.now.status.0 == 0 then return_lines function.now (loaded_bytes_of log.now call.now.turn (return_size_of function.now)) ++ ocall_out_lines function.now structure.now buffers.now log.now (call.now.turn + return_size_of function.now) function.now.params else [])) }
+    ensures { OnOk result (out.new.items ≡ out.old.items ++ (if call.now.status.0 == 0
+        then return_lines function.now (loaded_bytes_of log.now call.now.turn (return_size_of function.now))
+        ++ ocall_out_lines function.now structure.now buffers.now log.now
+        (call.now.turn + return_size_of function.now) function.now.params
+        else [])) }
 {
     if call.status.0 != 0 {
         return Ok(());

@@ -14,7 +14,8 @@ pub(crate) fn after<T>(items: &[T], at: usize) -> &[T]
 
 /// The first items, so many, and those after them, where None stands for any number of more than 64 bits.
 pub(crate) fn split<T>(items: &[T], count: Option<u64>) -> (&[T], &[T])
-    ensures { (n : ℕ) → SomeIff count (n < 2 ^ 64) n → (result.0.now ≡ take n items.now) × (result.1.now ≡ drop n items.now) }
+    ensures { (n : ℕ) → SomeIff count (n < 2 ^ 64) n
+        → (result.0.now ≡ take n items.now) × (result.1.now ≡ drop n items.now) }
 {
     let most = items.len();
     let count = match count {

@@ -136,7 +136,8 @@ fn append_six_words(
     way: &str,
     status: &str,
 ) -> Result<(), AllocError>
-    ensures { OnOk result (out.new.items ≡ out.old.items ++ line_of (kind.now ∷ depth.now ∷ name.now ∷ frame.now ∷ way.now ∷ status.now ∷ [])) }
+    ensures { OnOk result (out.new.items
+        ≡ out.old.items ++ line_of (kind.now ∷ depth.now ∷ name.now ∷ frame.now ∷ way.now ∷ status.now ∷ [])) }
 {
     append_line(
         out,

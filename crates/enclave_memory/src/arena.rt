@@ -65,7 +65,8 @@ impl Arena {
     /// Begins a block of zeros, in so many bytes rounded up to a multiple of 16.
     pub fn push_block(&mut self, length: u32) -> Option<Block>
         requires { 0 < length }
-        ensures pushed { MatchOption result ((self.new ≡ self.old) × (room_of self.old < rounded_size length)) (λ block. IsPush self.old self.new block (replicate length 0)) }
+        ensures pushed { MatchOption result ((self.new ≡ self.old) × (room_of self.old < rounded_size length))
+            (λ block. IsPush self.old self.new block (replicate length 0)) }
         ensures fits { IfSome result (λ block. rounded_size length ≤ room_of self.old) }
         ensures within { IfSome result (λ block. block.at + block.length ≤ self.new.size) }
     {
@@ -98,8 +99,12 @@ impl Arena {
     pub fn write(&mut self, block: Block, offset: u32, bytes: &[u8])
         requires live { IsLive self.old block }
         requires fits { offset + length bytes.now ≤ block.length }
-        ensures written { (number : ℕ) (old : List ℕ) → IsBlock self.old block number old → IsWrite self.old self.new block (with_bytes_at old offset bytes.now) }
-        ensures number { (number : ℕ) (old : List ℕ) → IsBlock self.old block number old → self.new ≡ record self.old { blocks = slice_set self.old.blocks number (with_bytes_at old offset bytes.now) } }
+        ensures written { (number : ℕ) (old : List ℕ) → IsBlock self.old block number old
+            → IsWrite self.old self.new block (with_bytes_at old offset bytes.now) }
+        ensures number { (number : ℕ) (old : List ℕ) → IsBlock self.old block number old
+            → self.new ≡ record self.old {
+              blocks = slice_set self.old.blocks number (with_bytes_at old offset bytes.now);
+            } }
     {
         self.memory
             .write(block.at as usize + offset as usize, bytes);
@@ -109,7 +114,8 @@ impl Arena {
     pub fn zero(&mut self, block: Block)
         requires { IsLive self.old block }
         ensures written { IsWrite self.old self.new block (replicate block.length 0) }
-        ensures number { (number : ℕ) (old : List ℕ) → IsBlock self.old block number old → self.new ≡ record self.old { blocks = slice_set self.old.blocks number (replicate block.length 0) } }
+        ensures number { (number : ℕ) (old : List ℕ) → IsBlock self.old block number old
+            → self.new ≡ record self.old { blocks = slice_set self.old.blocks number (replicate block.length 0) } }
     {
         self.memory.zero(block.at as usize, block.length as usize);
     }
@@ -118,7 +124,10 @@ impl Arena {
     pub fn zero_from(&mut self, block: Block, offset: u32)
         requires live { IsLive self.old block }
         requires within { offset ≤ block.length }
-        ensures { (number : ℕ) (old : List ℕ) → IsBlock self.old block number old → self.new ≡ record self.old { blocks = slice_set self.old.blocks number (take offset old ++ replicate (block.length - offset) 0) } }
+        ensures { (number : ℕ) (old : List ℕ) → IsBlock self.old block number old
+            → self.new ≡ record self.old {
+              blocks = slice_set self.old.blocks number (take offset old ++ replicate (block.length - offset) 0);
+            } }
     {
         self.memory.zero(
             block.at as usize + offset as usize,
@@ -129,7 +138,8 @@ impl Arena {
     /// Ends the blocks that were pushed since the mark, and sets their bytes to 0.
     pub fn pop_to(&mut self, mark: u32)
         requires { (k : ℕ) × (mark ≡ taken_by (take k self.old.blocks)) }
-        ensures { (k : ℕ) → k ≤ length self.old.blocks → mark ≡ taken_by (take k self.old.blocks) → self.new ≡ record self.old { blocks = take k self.old.blocks } }
+        ensures { (k : ℕ) → k ≤ length self.old.blocks → mark ≡ taken_by (take k self.old.blocks)
+            → self.new ≡ record self.old { blocks = take k self.old.blocks } }
     {
         self.memory
             .zero(mark as usize, (self.taken - mark) as usize);
@@ -162,7 +172,8 @@ fn unlist(lengths: &mut Vec<u32>, taken: u32, mark: u32)
     requires taken { taken ≡ taken_in lengths.old.items }
     requires filled { All (λ n. 0 < n) lengths.old.items }
     requires limit { taken ≤ 65536 }
-    ensures left { (k : ℕ) → k ≤ length lengths.old.items → mark ≡ taken_in (take k lengths.old.items) → lengths.new.items ≡ take k lengths.old.items }
+    ensures left { (k : ℕ) → k ≤ length lengths.old.items → mark ≡ taken_in (take k lengths.old.items)
+        → lengths.new.items ≡ take k lengths.old.items }
     ensures capacity { vec_capacity lengths.new ≡ vec_capacity lengths.old }
 {
     let mut left = taken;

@@ -120,7 +120,8 @@ pub fn read_script(
     requires short { length bytes.now ≤ max_file_size }
     ensures ok { IfOk result (λ s. script_form interface.now bytes.now ≡ Ok s) }
     ensures plain { IfOk result (λ s. IsPlainScript interface.now s) }
-    ensures rule { (line code : ℕ) → result ≡ Err (Rule line code) → (script_form interface.now bytes.now ≡ Err line) × (code ≡ 1) }
+    ensures rule { (line code : ℕ) → result ≡ Err (Rule line code)
+        → (script_form interface.now bytes.now ≡ Err line) × (code ≡ 1) }
 {
     script::read(alloc, bytes, interface)
 }

@@ -123,7 +123,8 @@ pub struct Makes<K: OfKind, T: OfSide> {
 impl<K: OfKind, T: OfSide> Play<u8, View> for Makes<K, T> {
     ghost use Rattle.shared_words.specs.Rule.{IsStep, request};
 
-    ghost then = { λ step before found after. IsStep (request T.side K.kind step.word step.first step.second) before found after };
+    ghost then = { λ step before found after.
+        IsStep (request T.side K.kind step.word step.first step.second) before found after };
 }
 
 /// A seat that comes, and one that ends.

@@ -29,10 +29,14 @@ pub fn offer<P: WordPort>(
     requires ordinal { ordinal < 2 ^ 16 }
     requires frame { IsFrameUpTo last_offered_frame frame }
     ensures ok { IfOk result (λ task. MatchOption task
-        (Makes (offering pool.now.from pool.now.slots (offered_word ordinal frame)) (P.state port.old) (P.state port.new) None)
-        (λ t. Makes (offering pool.now.from pool.now.slots (offered_word ordinal frame)) (P.state port.old) (P.state port.new) (Some t.slot) × (t.ordinal ≡ ordinal) × (t.frame ≡ frame))) }
+        (Makes (offering pool.now.from pool.now.slots (offered_word ordinal frame))
+        (P.state port.old) (P.state port.new) None)
+        (λ t. Makes (offering pool.now.from pool.now.slots (offered_word ordinal frame))
+        (P.state port.old) (P.state port.new) (Some t.slot) × (t.ordinal ≡ ordinal) × (t.frame ≡ frame))) }
     ensures slot { IfOk result (λ task. MatchOption task (Unit {0}) (λ t. IsPastHost (P.state port.new) t.slot)) }
-    ensures full { IfErr result (λ full. (full ≡ Steps) × StopsFull (offering pool.now.from pool.now.slots (offered_word ordinal frame)) (P.state port.old) (P.state port.new)) }
+    ensures full { IfErr result (λ full. (full ≡ Steps)
+        × StopsFull (offering pool.now.from pool.now.slots (offered_word ordinal frame))
+        (P.state port.old) (P.state port.new)) }
 {
     for place in 0..pool.slots {
         let task = Task {
@@ -52,7 +56,8 @@ pub fn look<P: WordPort>(port: &mut P, task: &Task) -> Result<bool, RunFull>
     requires slot { IsPastHost (P.state port.old) task.now.slot }
     ensures ok { IfOk result (λ done. Makes (looking task.now.slot) (P.state port.old) (P.state port.new) done) }
     ensures seen { IfOk result (λ done. done ≡ true → HasSeenDone task.now.slot (P.state port.new).log) }
-    ensures full { IfErr result (λ full. (full ≡ Steps) × StopsFull (looking task.now.slot) (P.state port.old) (P.state port.new)) }
+    ensures full { IfErr result (λ full. (full ≡ Steps)
+        × StopsFull (looking task.now.slot) (P.state port.old) (P.state port.new)) }
 {
     let word = load(port, task.slot)?;
     Ok(is_done(word))
@@ -62,8 +67,10 @@ pub fn look<P: WordPort>(port: &mut P, task: &Task) -> Result<bool, RunFull>
 pub fn withdraw<P: WordPort>(port: &mut P, task: &Task) -> Result<bool, RunFull>
     requires slot { IsPastHost (P.state port.old) task.now.slot }
     requires task { IsTask task.now }
-    ensures ok { IfOk result (λ won. Makes (withdrawing task.now.slot (task_word task.now)) (P.state port.old) (P.state port.new) won) }
-    ensures full { IfErr result (λ full. (full ≡ Steps) × StopsFull (withdrawing task.now.slot (task_word task.now)) (P.state port.old) (P.state port.new)) }
+    ensures ok { IfOk result (λ won. Makes (withdrawing task.now.slot (task_word task.now))
+        (P.state port.old) (P.state port.new) won) }
+    ensures full { IfErr result (λ full. (full ≡ Steps)
+        × StopsFull (withdrawing task.now.slot (task_word task.now)) (P.state port.old) (P.state port.new)) }
 {
     let offered = task.word(Tag::Offered, 0);
     let found = cas(port, task.slot, offered, 0)?;
@@ -75,7 +82,8 @@ pub fn collect<P: WordPort>(port: &mut P, task: Task) -> Result<Status, RunFull>
     requires slot { IsPastHost (P.state port.old) task.slot }
     requires seen { HasSeenDone task.slot (P.state port.old).log }
     ensures ok { IfOk result (λ status. Makes (collecting task.slot) (P.state port.old) (P.state port.new) status.0) }
-    ensures full { IfErr result (λ full. (full ≡ Steps) × StopsFull (collecting task.slot) (P.state port.old) (P.state port.new)) }
+    ensures full { IfErr result (λ full. (full ≡ Steps)
+        × StopsFull (collecting task.slot) (P.state port.old) (P.state port.new)) }
 {
     let word = swap(port, task.slot, 0)?;
     Ok(status_of(word))
@@ -86,7 +94,8 @@ fn look_often<P: WordPort>(port: &mut P, task: &Task, retries: u32) -> Result<bo
     requires slot { IsPastHost (P.state port.old) task.now.slot }
     ensures ok { IfOk result (λ done. Makes (looks task.now.slot retries) (P.state port.old) (P.state port.new) done) }
     ensures seen { IfOk result (λ done. done ≡ true → HasSeenDone task.now.slot (P.state port.new).log) }
-    ensures full { IfErr result (λ full. (full ≡ Steps) × StopsFull (looks task.now.slot retries) (P.state port.old) (P.state port.new)) }
+    ensures full { IfErr result (λ full. (full ≡ Steps)
+        × StopsFull (looks task.now.slot retries) (P.state port.old) (P.state port.new)) }
     ensures slot { IfOk result (λ _. IsPastHost (P.state port.new) task.now.slot) }
 {
     for _ in 0..retries {
@@ -109,7 +118,9 @@ fn glance_until_done<P: WordPort>(port: &P, slot: u32) {
 /// Waits until the call was served, and takes 1 from `waits` for each look.
 fn wait_until_done<P: WordPort>(port: &mut P, task: &Task, waits: &mut u32) -> Result<(), RunFull>
     requires slot { IsPastHost (P.state port.old) task.now.slot }
-    ensures outcome { (most : ℕ) → waits.old < most → IsOutcomeOf (λ _. tt) (waiting_looks task.now.slot most) (P.state port.old) waits.old (P.state port.new) waits.new result }
+    ensures outcome { (most : ℕ) → waits.old < most
+        → IsOutcomeOf (λ _. tt) (waiting_looks task.now.slot most)
+        (P.state port.old) waits.old (P.state port.new) waits.new result }
     ensures seen { OnOk result (HasSeenDone task.now.slot (P.state port.new).log) }
     ensures slot { OnOk result (IsPastHost (P.state port.new) task.now.slot) }
 {
@@ -128,7 +139,8 @@ fn wait_until_done<P: WordPort>(port: &mut P, task: &Task, waits: &mut u32) -> R
 fn take_answer<P: WordPort>(port: &mut P, task: &Task, waits: u32) -> Result<Sent, RunFull>
     requires slot { IsPastHost (P.state port.old) task.now.slot }
     requires seen { HasSeenDone task.now.slot (P.state port.old).log }
-    ensures { IsOutcomeOf sent_as (collected_status task.now.slot) (P.state port.old) waits (P.state port.new) waits result }
+    ensures { IsOutcomeOf sent_as (collected_status task.now.slot)
+        (P.state port.old) waits (P.state port.new) waits result }
 {
     let status = collect(port, *task)?;
     Ok(Sent::Answered(status))
@@ -142,7 +154,9 @@ fn withdraw_or_wait<P: WordPort>(
 ) -> Result<Sent, RunFull>
     requires slot { IsPastHost (P.state port.old) task.now.slot }
     requires task { IsTask task.now }
-    ensures { (most : ℕ) → waits.old < most → IsOutcomeOf sent_as (after_looks most task.now.slot (task_word task.now) false) (P.state port.old) waits.old (P.state port.new) waits.new result }
+    ensures { (most : ℕ) → waits.old < most →
+        IsOutcomeOf sent_as (after_looks most task.now.slot (task_word task.now) false)
+        (P.state port.old) waits.old (P.state port.new) waits.new result }
 {
     if withdraw(port, task)? {
         return Ok(Sent::Fallback);
@@ -160,7 +174,10 @@ fn await_answer<P: WordPort>(
 ) -> Result<Sent, RunFull>
     requires slot { IsPastHost (P.state port.old) task.now.slot }
     requires task { IsTask task.now }
-    ensures { (most : ℕ) → waits.old < most → IsOutcomeOf sent_as (and_then (looks task.now.slot retries) (after_looks most task.now.slot (task_word task.now))) (P.state port.old) waits.old (P.state port.new) waits.new result }
+    ensures { (most : ℕ) → waits.old < most →
+        IsOutcomeOf sent_as
+        (and_then (looks task.now.slot retries) (after_looks most task.now.slot (task_word task.now)))
+        (P.state port.old) waits.old (P.state port.new) waits.new result }
 {
     if look_often(port, task, retries)? {
         return take_answer(port, task, *waits);
@@ -182,7 +199,8 @@ pub fn call_switchless<P: WordPort>(
     requires slots { HasSlots (P.state port.old) pool.now }
     requires ordinal { ordinal < 2 ^ 16 }
     requires frame { IsFrameUpTo last_offered_frame frame }
-    ensures { IsOutcomeOf sent_as (caller pool.now (offered_word ordinal frame)) (P.state port.old) waits.old (P.state port.new) waits.new result }
+    ensures { IsOutcomeOf sent_as (caller pool.now (offered_word ordinal frame))
+        (P.state port.old) waits.old (P.state port.new) waits.new result }
 {
     let _waits = *waits;
     let retries = pool.retries;

@@ -14,7 +14,8 @@ use word_port::{RunFull, Side, WordPort};
 pub(crate) fn load<P: WordPort>(port: &mut P, slot: u32) -> Result<u64, RunFull>
     requires slot { IsPastHost (P.state port.old) slot }
     ensures ok { IfOk result (λ word. Makes (loaded ByPool slot) (P.state port.old) (P.state port.new) word) }
-    ensures full { IfErr result (λ full. (full ≡ Steps) × StopsFull (loaded ByPool slot) (P.state port.old) (P.state port.new)) }
+    ensures full { IfErr result (λ full. (full ≡ Steps)
+        × StopsFull (loaded ByPool slot) (P.state port.old) (P.state port.new)) }
 {
     if port.spare() == 0 {
         return Err(RunFull::Steps);
@@ -26,7 +27,8 @@ pub(crate) fn load<P: WordPort>(port: &mut P, slot: u32) -> Result<u64, RunFull>
 pub(crate) fn swap<P: WordPort>(port: &mut P, slot: u32, word: u64) -> Result<u64, RunFull>
     requires slot { IsPastHost (P.state port.old) slot }
     ensures ok { IfOk result (λ found. Makes (swapped ByPool slot word) (P.state port.old) (P.state port.new) found) }
-    ensures full { IfErr result (λ full. (full ≡ Steps) × StopsFull (swapped ByPool slot word) (P.state port.old) (P.state port.new)) }
+    ensures full { IfErr result (λ full. (full ≡ Steps)
+        × StopsFull (swapped ByPool slot word) (P.state port.old) (P.state port.new)) }
 {
     if port.spare() == 0 {
         return Err(RunFull::Steps);
@@ -37,8 +39,10 @@ pub(crate) fn swap<P: WordPort>(port: &mut P, slot: u32, word: u64) -> Result<u6
 /// Puts a word into a slot where another one stands there, and gives the one that stood there.
 pub(crate) fn cas<P: WordPort>(port: &mut P, slot: u32, old: u64, new: u64) -> Result<u64, RunFull>
     requires slot { IsPastHost (P.state port.old) slot }
-    ensures ok { IfOk result (λ found. Makes (exchanged ByPool slot old new) (P.state port.old) (P.state port.new) found) }
-    ensures full { IfErr result (λ full. (full ≡ Steps) × StopsFull (exchanged ByPool slot old new) (P.state port.old) (P.state port.new)) }
+    ensures ok { IfOk result (λ found. Makes (exchanged ByPool slot old new)
+        (P.state port.old) (P.state port.new) found) }
+    ensures full { IfErr result (λ full. (full ≡ Steps)
+        × StopsFull (exchanged ByPool slot old new) (P.state port.old) (P.state port.new)) }
 {
     if port.spare() == 0 {
         return Err(RunFull::Steps);

@@ -18,8 +18,10 @@ pub fn scan<P: WordPort>(port: &mut P, pool: &Pool, slot: u32) -> Result<Option<
     requires place { slot < pool.now.slots }
     ensures ok { IfOk result (λ task. MatchOption task
         (Makes (scanned (pool.now.from + slot)) (P.state port.old) (P.state port.new) None)
-        (λ t. Makes (scanned (pool.now.from + slot)) (P.state port.old) (P.state port.new) (Some (task_word t)) × (t.slot ≡ pool.now.from + slot) × IsTask t)) }
-    ensures full { IfErr result (λ full. (full ≡ Steps) × StopsFull (scanned (pool.now.from + slot)) (P.state port.old) (P.state port.new)) }
+        (λ t. Makes (scanned (pool.now.from + slot)) (P.state port.old) (P.state port.new) (Some (task_word t))
+        × (t.slot ≡ pool.now.from + slot) × IsTask t)) }
+    ensures full { IfErr result (λ full. (full ≡ Steps)
+        × StopsFull (scanned (pool.now.from + slot)) (P.state port.old) (P.state port.new)) }
 {
     let slot = slot_at(port, pool, slot);
     let word = load(port, slot)?;
@@ -33,8 +35,10 @@ pub fn scan<P: WordPort>(port: &mut P, pool: &Pool, slot: u32) -> Result<Option<
 pub fn accept<P: WordPort>(port: &mut P, task: &Task) -> Result<bool, RunFull>
     requires slot { IsPastHost (P.state port.old) task.now.slot }
     requires task { IsTask task.now }
-    ensures ok { IfOk result (λ won. Makes (accepting task.now.slot (task_word task.now)) (P.state port.old) (P.state port.new) won) }
-    ensures full { IfErr result (λ full. (full ≡ Steps) × StopsFull (accepting task.now.slot (task_word task.now)) (P.state port.old) (P.state port.new)) }
+    ensures ok { IfOk result (λ won. Makes (accepting task.now.slot (task_word task.now))
+        (P.state port.old) (P.state port.new) won) }
+    ensures full { IfErr result (λ full. (full ≡ Steps)
+        × StopsFull (accepting task.now.slot (task_word task.now)) (P.state port.old) (P.state port.new)) }
 {
     let offered = task.word(Tag::Offered, 0);
     let accepted = task.word(Tag::Accepted, 0);
@@ -47,8 +51,10 @@ pub fn finish<P: WordPort>(port: &mut P, task: Task, status: Status) -> Result<(
     requires slot { IsPastHost (P.state port.old) task.slot }
     requires task { IsTask task }
     requires status { status.0 < 2 ^ 16 }
-    ensures ok { OnOk result (Makes (finishing task.slot (task_word task) status.0) (P.state port.old) (P.state port.new) tt) }
-    ensures full { IfErr result (λ full. (full ≡ Steps) × StopsFull (finishing task.slot (task_word task) status.0) (P.state port.old) (P.state port.new)) }
+    ensures ok { OnOk result (Makes (finishing task.slot (task_word task) status.0)
+        (P.state port.old) (P.state port.new) tt) }
+    ensures full { IfErr result (λ full. (full ≡ Steps)
+        × StopsFull (finishing task.slot (task_word task) status.0) (P.state port.old) (P.state port.new)) }
 {
     let done = task.word(Tag::Done, status.0);
     swap(port, task.slot, done)?;

@@ -61,7 +61,8 @@ pub fn roles_law<R>()
 pub fn one_server_law()
     ensures { (pool : Pool) (words : List ℕ) (participants : List (List Step)) (before between after : List Step) →
         (slot first second : ℕ) → All (KeepsSlots pool) participants →
-        IsHistory pool words participants (before ++ acceptance slot first ∷ (between ++ acceptance slot second ∷ after)) →
+        IsHistory pool words participants
+        (before ++ acceptance slot first ∷ (between ++ acceptance slot second ∷ after)) →
         IsSlotOf pool slot → IsTrue (is_offered first) → IsTrue (is_offered second) →
         Contains between (offering slot second) }
 {}
@@ -80,7 +81,8 @@ pub fn collected_law()
 
 /// A word that a worker leaves tells of the call that was offered, with the status of the worker.
 pub fn done_word_law()
-    ensures ordinal { (word status : ℕ) → IsTrue (is_offered word) → ordinal_in (done_word word status) ≡ ordinal_in word }
+    ensures ordinal { (word status : ℕ) → IsTrue (is_offered word)
+        → ordinal_in (done_word word status) ≡ ordinal_in word }
     ensures frame { (word status : ℕ) → IsTrue (is_offered word) → frame_in (done_word word status) ≡ frame_in word }
     ensures status { (word status : ℕ) → IsTrue (is_offered word) → status_in (done_word word status) ≡ status }
 {}
@@ -115,5 +117,6 @@ pub fn broken_roles_law()
     ensures early { IsLegal (0 ∷ 1 ∷ []) (history_of collecting_early) }
     ensures served_once { served_in one_slot collecting_early ≡ the_call ∷ [] }
     ensures taken_early { taken_in one_slot collecting_early ≡ the_call_unserved ∷ [] }
-    ensures held_still { held_in one_slot (words_in_the_end (0 ∷ 1 ∷ []) (history_of collecting_early)) ≡ the_call ∷ [] }
+    ensures held_still { held_in one_slot (words_in_the_end (0 ∷ 1 ∷ []) (history_of collecting_early))
+        ≡ the_call ∷ [] }
 {}

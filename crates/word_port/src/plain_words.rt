@@ -38,9 +38,17 @@ impl Model for PlainWords {
 
     ghost Value = { PortState };
 
-    ghost view = { λ p. record { log = p.log.items; limit = p.limit; words = length p.initial.items; host = p.host; name = name_of p.initial.items p.races.items } };
+    ghost view = { λ p. record {
+      log = p.log.items;
+      limit = p.limit;
+      words = length p.initial.items;
+      host = p.host;
+      name = name_of p.initial.items p.races.items;
+    } };
 
-    ghost invariant = { λ p. IsKept p.initial.items p.races.items p.host p.turn.accesses p.turn.made p.words.items p.log.items × (p.turn.accesses ≤ vec_len p.log) × (vec_len p.log ≤ p.limit) × (p.limit ≤ vec_capacity p.log) };
+    ghost invariant = { λ p.
+        IsKept p.initial.items p.races.items p.host p.turn.accesses p.turn.made p.words.items p.log.items
+        × (p.turn.accesses ≤ vec_len p.log) × (vec_len p.log ≤ p.limit) × (p.limit ≤ vec_capacity p.log) };
 }
 
 impl PlainWords {
@@ -81,7 +89,14 @@ impl PlainWords {
         requires room { HasRoom self.old }
         requires word { index < self.old.words }
         requires byte { index < self.old.host → IsByteKind kind × (first < 256) }
-        ensures step { self.new ≡ with_steps self.old (record { side = side; kind = kind; index = index; first = first; second = second; answer = result } ∷ []) }
+        ensures step { self.new ≡ with_steps self.old (record {
+          side = side;
+          kind = kind;
+          index = index;
+          first = first;
+          second = second;
+          answer = result;
+        } ∷ []) }
         ensures byte { index < self.old.host → result < 256 }
     {
         let access = is_access(side, index, self.host);
@@ -112,7 +127,8 @@ impl WordPort for PlainWords {
 
     fn log(&self) -> &[Step]
         ensures log { result.now ≡ self.now.log }
-        ensures legal { IsLegal (words_named self.now.name) (with_races self.now.host (races_named self.now.name) self.now.log) }
+        ensures legal { IsLegal (words_named self.now.name)
+            (with_races self.now.host (races_named self.now.name) self.now.log) }
         ensures bytes { All (IsByteStep self.now.words self.now.host) self.now.log }
         ensures limit { length self.now.log ≤ self.now.limit }
         ensures short { length self.now.log < 2 ^ 32 }
