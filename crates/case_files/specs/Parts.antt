@@ -5,7 +5,8 @@ use Rattle.std.specs.List.{starts_with}
 -- how many bytes stand before the next line that is a marker, where the first byte begins a line or not
 abbrev pub body_length : Bool → List ℕ → ℕ
 body_length begins [] = 0
-body_length begins (b ∷ bytes) = if begins && starts_with nat_eq (b ∷ bytes) (codes "== ") then 0 else suc (body_length (b == 10) bytes)
+body_length begins (b ∷ bytes) =
+    if begins && starts_with nat_eq (b ∷ bytes) (codes "== ") then 0 else suc (body_length (b == 10) bytes)
 
 -- a text begins with a part: its marker's line, and the lines below up to the next marker
 pub record IsNextPart (head body before after : List ℕ) : Type 0 where

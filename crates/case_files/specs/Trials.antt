@@ -15,6 +15,9 @@ are_bytes bytes (Some found) = bytes_eq found bytes
 abbrev pub is_held : MemStore → NamedFile → Bool
 is_held store file = are_bytes file.bytes.items (stored store.files (string_bytes file.name))
 
--- whether a program that gave this status did what it must: the status, the bytes in the sink and the files in the store are those wanted
+-- whether a program that gave this status did what it must: the status, the bytes in the sink and the files in the
+-- store are those wanted
 abbrev pub is_met : Trial → ℕ → Bool
-is_met trial status = nat_eq status trial.status && (bytes_eq trial.sink.written trial.written.items && list_all (is_held trial.files) trial.held.items)
+is_met trial status =
+    nat_eq status trial.status
+    && (bytes_eq trial.sink.written trial.written.items && list_all (is_held trial.files) trial.held.items)

@@ -20,7 +20,8 @@ fn digit(byte: u8) -> Result<u8, Flaw>
     }
 }
 
-/// Writes what stands for an escape, of which the text is what follows its backslash, and gives the escape's length in that text.
+/// Writes what stands for an escape, of which the text is what follows its backslash, and gives the escape's length in
+/// that text.
 fn write_escape(out: &mut Vec<u8>, text: &[u8], number: u64) -> Result<usize, Flaw>
     ensures within { IfOk result (λ len. len ≤ length text.now) }
 {
@@ -91,8 +92,9 @@ fn write_repetition(out: &mut Vec<u8>, text: &[u8]) -> Result<usize, Flaw>
 
 /// The bytes that a text stands for, where `\#` stands for the number.
 ///
-/// A byte other than a backslash stands for itself. `\n` is a line feed and `\xHH` any byte; a backslash at the end of a line takes
-/// its line feed away, and `\-` is nothing. `\(FIRST..LAST TEXT\)` is the text once for each of these numbers, which `\#` is there.
+/// A byte other than a backslash stands for itself. `\n` is a line feed and `\xHH` any byte; a backslash at the end of
+/// a line takes its line feed away, and `\-` is nothing. `\(FIRST..LAST TEXT\)` is the text once for each of these
+/// numbers, which `\#` is there.
 pub fn expanded(alloc: Global, text: &[u8], number: u64) -> Result<Vec<u8>, Flaw>
     ensures as_they_are { All (λ byte. byte ≢ BACKSLASH) text.now → IfOk result (λ bytes. bytes.items ≡ text.now) }
 {

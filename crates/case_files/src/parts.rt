@@ -1,6 +1,6 @@
 //! The parts of a file of cases.
 
-ghost use Rattle.std.specs.Prelude.{◌≡◌, ◌≤◌, ◌<◌, [], length, drop, true, MatchOption, OnSome};
+ghost use Rattle.std.specs.Prelude.{◌≡◌, ◌≤◌, ◌<◌, [], length, drop, true, IfNone, IfSome, OnSome};
 ghost use Rattle.case_files.specs.Parts.{body_length, IsNextPart};
 
 use crate::numbers::cut_at_blank;
@@ -93,7 +93,8 @@ impl<'a> Parts<'a> {
 
     /// Takes the next part.
     pub fn next(&mut self) -> Option<Part<'a>>
-        ensures part { MatchOption result (self.old.rest.now ≡ []) (λ part. IsNextPart part.head.now part.body.now self.old.rest.now self.new.rest.now) }
+        ensures part { IfSome result (λ p. IsNextPart p.head.now p.body.now self.old.rest.now self.new.rest.now) }
+        ensures none { IfNone result (self.old.rest.now ≡ []) }
         ensures shorter { OnSome result (length self.new.rest.now < length self.old.rest.now) }
     {
         let text = self.rest;
