@@ -1,6 +1,6 @@
 -- What is read of one file may be run on.
-use Rattle.std.proofs.Common.{arith, ℕ, zero, suc, ◌≡◌, ◌⊎◌, inl, inr, true, List, [], ◌∷◌, ◌++◌, map, length, refl, sym, ap, ◌∙◌, subst}
-use Rattle.std.specs.Prelude.{All, Contains}
+use Rattle.std.proofs.Common.{arith, ℕ, zero, suc, ◌≡◌, ◌⊎◌, inl, inr, List, [], ◌∷◌, map, length, refl, sym, ap, ◌∙◌, subst}
+use Rattle.std.specs.Prelude.{Contains}
 use Rattle.std.proofs.lemmas.List.Elements.{All-cons, All-nil, Contains-append_cases}
 use Rattle.edl_lexer.specs.declared.Token.{Token}
 use Rattle.edl_grammar.specs.declared.EdlFile.{EdlFile}
@@ -8,7 +8,7 @@ use Rattle.edl_grammar.specs.declared.Gathered.{Gathered}
 use Rattle.edl_grammar.specs.declared.SourceFile.{SourceFile}
 use Rattle.edl_grammar.specs.declared.TypeDecl.{TypeDecl}
 use Rattle.edl_grammar.specs.Files.{TypeIn, types_of}
-use Rattle.attr_rules.specs.ForRun.{AreForRun, AreInOneFile, IsRead as is_read}
+use Rattle.attr_rules.specs.ForRun.{AreForRun, IsRead as is_read}
 use Rattle.call_engine.specs.RootFile.{IsRead, alone, no_foreign}
 use Rattle.call_engine.proofs.ReadLaws.{read_tree}
 

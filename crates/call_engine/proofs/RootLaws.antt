@@ -1,7 +1,7 @@
 -- What the stages of reading the root file tell.
-use Rattle.std.proofs.Common.{ℕ, ◌≡◌, ◌⊎◌, inl, inr, List, [], ◌∷◌, length, Option, Some, None, Result, Ok, Err, refl, ap, sym, ◌∙◌, subst, arith, ◌<◌, true, false, Bool}
+use Rattle.std.proofs.Common.{ℕ, ◌≡◌, ◌⊎◌, inl, inr, List, [], ◌∷◌, length, Result, Ok, Err, refl, ap, sym, ◌∙◌, subst, arith, ◌<◌, true}
 use Rattle.std.specs.Prelude.{IfOk, IfErr, IfSome, slice_get}
-use Rattle.sgx_base.specs.Outcome.{Gives}
+use Rattle.sgx_base.specs.Outcome.{Gives, OrMemory}
 use Rattle.sgx_base.specs.declared.Fault.{Fault}
 use Rattle.edl_lexer.specs.declared.Token.{Token}
 use Rattle.edl_lexer.specs.declared.LexFault.{LexFault}
@@ -21,22 +21,22 @@ use Rattle.edl_interface.specs.declared.Interface.{Interface}
 use Rattle.attr_rules.specs.declared.RuleFault.{RuleFault}
 use Rattle.attr_rules.specs.declared.RuleFault.TheVariants.{Rule, Memory}
 use Rattle.attr_rules.specs.Checked.{checked}
-use Rattle.call_engine.specs.RootFile.{Told, of_lexer, of_parser, of_layouts, IsMisread, no_tokens, no_tree, second_file, IsRefused, no_layout, broken, other, IsLaidOut, no_foreign}
+use Rattle.call_engine.specs.RootFile.{Told, of_lexer, of_parser, of_layouts, IsMisread, no_tokens, no_tree, second_file, IsRefused, no_layout, broken, IsLaidOut, no_foreign}
 
-told_by : (Is : Fault → Type 0) (e : RuleFault) → ((f : Fault) → e ≡ Rule f → Is f) → Told Is e
-told_by Is (Rule f) h = h f refl
-told_by Is Memory h = tt
+told_by : (Is : Fault → Type 0) (e : RuleFault) → ((f : Fault) → e ≡ Rule f → Is f) → OrMemory Memory (Told Is) e
+told_by Is (Rule f) h = inr (h f refl)
+told_by Is Memory h = inl refl
 
 free : (f : Fault) (e : RuleFault) → e ≡ Rule f → e ≡ Memory → ⊥
 free f e p q = let clash : Rule f ≡ Memory = sym p ∙ q in absurd cc
 
 -- the lexer's refusal
-pub told_by_lexer : (bytes : List ℕ) (e : LexFault) → (e ≡ lexical.Memory) ⊎ (lexing 0 bytes ≡ Err e) → Told (IsMisread bytes) (of_lexer e)
+pub told_by_lexer : (bytes : List ℕ) (e : LexFault) → (e ≡ lexical.Memory) ⊎ (lexing 0 bytes ≡ Err e) → OrMemory Memory (Told (IsMisread bytes)) (of_lexer e)
 told_by_lexer bytes e (inl m) = told_by (IsMisread bytes) (of_lexer e) (λ f is. absurd (free f (of_lexer e) is (ap of_lexer m)))
 told_by_lexer bytes e (inr h) = told_by (IsMisread bytes) (of_lexer e) (λ f is. no_tokens e h is)
 
 -- the parser's refusal
-pub told_by_parser : (bytes : List ℕ) (tokens : List Token) (e : ParseFault) → lexing 0 bytes ≡ Ok tokens → Parses 0 bytes tokens (Err e) → Told (IsMisread bytes) (of_parser e)
+pub told_by_parser : (bytes : List ℕ) (tokens : List Token) (e : ParseFault) → lexing 0 bytes ≡ Ok tokens → Parses 0 bytes tokens (Err e) → OrMemory Memory (Told (IsMisread bytes)) (of_parser e)
 told_by_parser bytes tokens e l h = told_by (IsMisread bytes) (of_parser e) (λ f is. no_tree tokens e l h is)
 
 -- the first import
@@ -61,14 +61,14 @@ told_by_first bytes tokens these those tree imports f same_these same_those same
     (subst (λ (is : List Import). 0 < length is) same some)
 
 -- the refusal of the layouts
-pub told_by_layouts : (g : Gathered) (e : LayoutFault) → ((e ≡ laid.Memory → ⊥) → HasLayoutFault g no_foreign e) → Told (IsRefused g) (of_layouts e)
+pub told_by_layouts : (g : Gathered) (e : LayoutFault) → ((e ≡ laid.Memory → ⊥) → HasLayoutFault g no_foreign e) → OrMemory Memory (Told (IsRefused g)) (of_layouts e)
 told_by_layouts g e h = told_by (IsRefused g) (of_layouts e) (λ f is. no_layout e (h (λ m. free f (of_layouts e) is (ap of_layouts m))) is)
 
 -- the first broken rule
-pub told_by_rules : (g : Gathered) (table : List NamedShape) (result : Result Interface RuleFault) → IsLaidOut g table → Gives (λ e. e ≡ Memory) result (checked g table true) → IfErr result (Told (IsRefused g))
+pub told_by_rules : (g : Gathered) (table : List NamedShape) (result : Result Interface RuleFault) → IsLaidOut g table → Gives (λ e. e ≡ Memory) result (checked g table true) → IfErr result (OrMemory Memory (Told (IsRefused g)))
 told_by_rules g table (Ok i) l h = tt
-told_by_rules g table (Err (Rule f)) l h = broken table l (h (λ m. absurd cc))
-told_by_rules g table (Err Memory) l h = tt
+told_by_rules g table (Err (Rule f)) l h = inr (broken table l (h (λ m. absurd cc)))
+told_by_rules g table (Err Memory) l h = inl refl
 
 -- no rule is broken
 pub given_by_rules : (g : Gathered) (table : List NamedShape) (result : Result Interface RuleFault) → Gives (λ e. e ≡ Memory) result (checked g table true) → IfOk result (λ i. checked g table true ≡ Ok i)

@@ -1,5 +1,5 @@
 -- What the root EDL file comes to: what it says, its interface for a run, or its first fault.
-use Rattle.std.specs.Prelude.{ℕ, ◌≡◌, true, false, List, [], ◌∷◌, length, map, slice_get, Result, Ok, Err}
+use Rattle.std.specs.Prelude.{ℕ, ◌≡◌, true, false, List, [], ◌∷◌, length, map, slice_get, IfSome, Ok, Err}
 use Rattle.std.specs.List.{range_with_len}
 use Rattle.sgx_base.specs.declared.Fault.{Fault}
 use Rattle.edl_lexer.specs.declared.Token.{Token}
@@ -47,10 +47,10 @@ of_layouts (laid.SelfHolding place) = Rule place
 of_layouts (laid.TooLarge place) = Rule place
 of_layouts laid.Memory = Memory
 
--- what is told is so; want of memory is free
+-- a fault at a place is told, and it is so
 abbrev pub Told : (Fault → Type 0) → RuleFault → Type 0
 Told Is (Rule f) = Is f
-Told Is Memory = Unit {0}
+Told Is Memory = ⊥
 
 -- ---- the file as it is read
 
@@ -75,12 +75,19 @@ pub record IsRead (name bytes : List ℕ) (g : Gathered) : Type 0 where
   pub no_imports : tree.imports ≡ []
   pub gathered : g ≡ alone name tokens tree
 
+-- a file too many, at the text of the first of these imports
+abbrev pub IsAtFirst : List Import → List Token → Fault → Type 0
+IsAtFirst imports tokens f =
+    IfSome (slice_get imports 0) (λ first. f ≡ fault_by 0 11 (slice_get tokens first.token))
+
 -- the bytes have no tokens, or are no sentence, or import a file, which would be one too many
 pub data IsMisread (bytes : List ℕ) (f : Fault) : Type 0 where
   no_tokens : (e : LexFault) → lexing 0 bytes ≡ Err e → of_lexer e ≡ Rule f → IsMisread bytes f
-  no_tree : (tokens : List Token) (e : ParseFault) → lexing 0 bytes ≡ Ok tokens → Parses 0 bytes tokens (Err e) → of_parser e ≡ Rule f → IsMisread bytes f
-  second_file : (tokens : List Token) (tree : EdlFile) (first : Import) (rest : List Import) → lexing 0 bytes ≡ Ok tokens → Parses 0 bytes tokens (Ok tree)
-      → tree.imports ≡ first ∷ rest → f ≡ fault_by 0 11 (slice_get tokens first.token) → IsMisread bytes f
+  no_tree : (tokens : List Token) (e : ParseFault) → lexing 0 bytes ≡ Ok tokens → Parses 0 bytes tokens (Err e)
+      → of_parser e ≡ Rule f → IsMisread bytes f
+  second_file : (tokens : List Token) (tree : EdlFile) (first : Import) (rest : List Import)
+      → lexing 0 bytes ≡ Ok tokens → Parses 0 bytes tokens (Ok tree) → tree.imports ≡ first ∷ rest
+      → f ≡ fault_by 0 11 (slice_get tokens first.token) → IsMisread bytes f
 
 -- ---- its interface
 
@@ -108,4 +115,5 @@ pub record IsTaken (g : Gathered) (i : Interface) : Type 0 where
 pub data IsRefused (g : Gathered) (f : Fault) : Type 0 where
   no_layout : (e : LayoutFault) → HasLayoutFault g no_foreign e → of_layouts e ≡ Rule f → IsRefused g f
   broken : (table : List NamedShape) → IsLaidOut g table → checked g table true ≡ Err (Rule f) → IsRefused g f
-  other : (table : List NamedShape) (i : Interface) → IsLaidOut g table → checked g table true ≡ Ok i → is_taken i ≡ false → f ≡ not_taken → IsRefused g f
+  other : (table : List NamedShape) (i : Interface) → IsLaidOut g table → checked g table true ≡ Ok i
+      → is_taken i ≡ false → f ≡ not_taken → IsRefused g f

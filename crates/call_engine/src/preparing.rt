@@ -1,7 +1,8 @@
 //! From the names of files to a machine.
 
-ghost use Rattle.std.specs.Prelude.{ℕ, List, ◌≡◌, ◌≤◌, ◌<◌, ◌^◌, ◌⊎◌, length, Option, Some, None, Ok, Err, IfSome, IfOk, IfErr, vec_len};
-ghost use Rattle.sgx_base.specs.Stores.{Store, max_file_size};
+ghost use Rattle.std.specs.Prelude.{ℕ, List, ◌≡◌, ◌≤◌, ◌<◌, ◌^◌, length, Some, Ok, IfOk, IfErr, vec_len};
+ghost use Rattle.sgx_base.specs.Outcome.{OrMemory};
+ghost use Rattle.sgx_base.specs.Stores.{AreOnlyRead, Holds, max_file_size};
 ghost use Rattle.call_script.specs.PlainScript.{IsPlainScript};
 ghost use Rattle.script_form.specs.Form.{script_form};
 ghost use Rattle.edl_interface.specs.Sound.{IsSound};
@@ -9,7 +10,7 @@ ghost use Rattle.call_machine.specs.Plain.{IsPlainInterface, IsPlainMachine};
 ghost use Rattle.call_machine.specs.Sound.{IsSoundMachine};
 ghost use Rattle.attr_rules.specs.ForRun.{AreForRun};
 ghost use Rattle.call_engine.specs.RootFile.{IsRead, IsMisread, IsTaken, IsRefused, no_foreign};
-ghost use Rattle.call_engine.specs.Prepared.{shown, Prepares, GivesRoot, HasCause, HasFileCause, IsEdlFault, IsMachineOf, IsMachineFault, IsScriptFault, AreKept};
+ghost use Rattle.call_engine.specs.Prepared.{FilesGive, GivesRoot, IsUnprepared, IsUnread, IsEdlFault, IsMachineOf, IsMachineFault, IsScriptFault};
 
 use crate::Machine;
 use crate::root_file::{read_root, taken_interface};
@@ -47,7 +48,7 @@ impl From<AllocError> for PrepareFault {
 }
 
 fn not_found(alloc: Global, name: &str) -> PrepareFault
-    ensures { (result ≡ PrepareFault.Memory) ⊎ (result ≡ PrepareFault.NotFound name.now) }
+    ensures { OrMemory PrepareFault.Memory (λ fault. fault ≡ PrepareFault.NotFound name.now) result }
 {
     match Name::new(alloc, name.as_bytes()) {
         Ok(name) => PrepareFault::NotFound(name),
@@ -56,7 +57,8 @@ fn not_found(alloc: Global, name: &str) -> PrepareFault
 }
 
 fn not_read(alloc: Global, name: &str, fault: FileFault) -> PrepareFault
-    ensures { (result ≡ PrepareFault.Memory) ⊎ ((result ≡ PrepareFault.ReadFault name.now) × (fault ≡ FileFault.Failed)) }
+    ensures { OrMemory PrepareFault.Memory
+        (λ told. (told ≡ PrepareFault.ReadFault name.now) × (fault ≡ FileFault.Failed)) result }
 {
     let FileFault::Failed = fault else {
         return PrepareFault::Memory;
@@ -69,7 +71,7 @@ fn not_read(alloc: Global, name: &str, fault: FileFault) -> PrepareFault
 
 /// A fault of the EDL file of this name.
 fn of_edl(alloc: Global, edl: &str, fault: RuleFault) -> PrepareFault
-    ensures { (result ≡ PrepareFault.Memory) ⊎ ((f : Fault) × (fault ≡ RuleFault.Rule f) × (result ≡ PrepareFault.Edl edl.now f)) }
+    ensures { OrMemory PrepareFault.Memory (IsEdlFault edl.now (λ f. fault ≡ RuleFault.Rule f)) result }
 {
     let RuleFault::Rule(fault) = fault else {
         return PrepareFault::Memory;
@@ -81,11 +83,11 @@ fn of_edl(alloc: Global, edl: &str, fault: RuleFault) -> PrepareFault
 }
 
 fn read_file<F: Files>(alloc: Global, files: &mut F, name: &str) -> Result<Vec<u8>, PrepareFault>
-    ensures ok { IfOk result (λ v. IfSome (F.contents files.old) (λ store. store name.now ≡ Some v.items)) }
+    ensures ok { IfOk result (λ v. Holds (F.state files.old) name.now (Some v.items)) }
     ensures small { IfOk result (λ v. vec_len v ≤ max_file_size) }
-    ensures err { IfErr result (λ fault. HasFileCause name.now (shown (F.contents files.old) (F.read_faults files.old) (F.misses files.old)) (shown (F.contents files.new) (F.read_faults files.new) (F.misses files.new)) fault) }
-    ensures kept { AreKept (shown (F.contents files.old) (F.read_faults files.old) (F.misses files.old)) (shown (F.contents files.new) (F.read_faults files.new) (F.misses files.new)) }
-    ensures write_faults { F.write_faults files.new ≡ F.write_faults files.old }
+    ensures err { IfErr result
+        (OrMemory PrepareFault.Memory (IsUnread name.now (F.state files.old) (F.state files.new))) }
+    ensures kept { AreOnlyRead (F.state files.old) (F.state files.new) }
 {
     match files.read(alloc, name) {
         Ok(Some(bytes)) => Ok(bytes),
@@ -100,7 +102,7 @@ fn root_of(alloc: Global, edl: &str, bytes: &[u8]) -> Result<Gathered, PrepareFa
     ensures ok { IfOk result (IsRead edl.now bytes.now) }
     ensures few { IfOk result (λ g. length g.files < 2 ^ 32) }
     ensures for_run { IfOk result (λ g. AreForRun g no_foreign) }
-    ensures err { IfErr result (IsEdlFault edl.now (IsMisread bytes.now)) }
+    ensures err { IfErr result (OrMemory PrepareFault.Memory (IsEdlFault edl.now (IsMisread bytes.now))) }
 {
     match read_root(alloc, edl, bytes) {
         Ok(gathered) => Ok(gathered),
@@ -109,12 +111,12 @@ fn root_of(alloc: Global, edl: &str, bytes: &[u8]) -> Result<Gathered, PrepareFa
 }
 
 fn read_edl<F: Files>(alloc: Global, files: &mut F, edl: &str) -> Result<Gathered, PrepareFault>
-    ensures ok { IfOk result (λ g. GivesRoot (F.contents files.old) edl.now g) }
+    ensures ok { IfOk result (GivesRoot (F.state files.old) edl.now) }
     ensures few { IfOk result (λ g. length g.files < 2 ^ 32) }
     ensures for_run { IfOk result (λ g. AreForRun g no_foreign) }
-    ensures err { (script : List ℕ) → IfErr result (λ fault. HasCause edl.now script (shown (F.contents files.old) (F.read_faults files.old) (F.misses files.old)) (shown (F.contents files.new) (F.read_faults files.new) (F.misses files.new)) fault) }
-    ensures kept { AreKept (shown (F.contents files.old) (F.read_faults files.old) (F.misses files.old)) (shown (F.contents files.new) (F.read_faults files.new) (F.misses files.new)) }
-    ensures write_faults { F.write_faults files.new ≡ F.write_faults files.old }
+    ensures err { (script : List ℕ) → IfErr result
+        (OrMemory PrepareFault.Memory (IsUnprepared edl.now script (F.state files.old) (F.state files.new))) }
+    ensures kept { AreOnlyRead (F.state files.old) (F.state files.new) }
 {
     let bytes = read_file(alloc, files, edl)?;
     root_of(alloc, edl, &bytes)
@@ -127,7 +129,7 @@ fn interface_of(alloc: Global, edl: &str, gathered: &Gathered) -> Result<Interfa
     ensures ok { IfOk result (IsTaken gathered.now) }
     ensures sound { IfOk result IsSound }
     ensures plain { IfOk result IsPlainInterface }
-    ensures err { IfErr result (IsEdlFault edl.now (IsRefused gathered.now)) }
+    ensures err { IfErr result (OrMemory PrepareFault.Memory (IsEdlFault edl.now (IsRefused gathered.now))) }
 {
     match taken_interface(alloc, gathered) {
         Ok(interface) => Ok(interface),
@@ -140,7 +142,7 @@ fn script_of(alloc: Global, interface: &Interface, text: &[u8]) -> Result<Script
     requires short { length text.now ≤ max_file_size }
     ensures ok { IfOk result (λ s. script_form interface.now text.now ≡ Ok s) }
     ensures plain { IfOk result (λ s. IsPlainScript interface.now s) }
-    ensures err { IfErr result (IsScriptFault interface.now text.now) }
+    ensures err { IfErr result (OrMemory PrepareFault.Memory (IsScriptFault interface.now text.now)) }
 {
     match read_script(alloc, text, interface) {
         Ok(script) => Ok(script),
@@ -161,7 +163,7 @@ fn machine_of(
     requires short { length text.now ≤ max_file_size }
     ensures ok { IfOk result (λ m. IsMachineOf gathered.now text.now m) }
     ensures plain { IfOk result (λ m. IsPlainMachine m) }
-    ensures err { IfErr result (IsMachineFault edl.now gathered.now text.now) }
+    ensures err { IfErr result (OrMemory PrepareFault.Memory (IsMachineFault edl.now gathered.now text.now)) }
 {
     let interface = interface_of(alloc, edl, gathered)?;
     let script = script_of(alloc, &interface, text)?;
@@ -180,10 +182,10 @@ pub fn prepare<F: Files>(
 ) -> Result<Machine, PrepareFault>
     ensures plain { IfOk result (λ m. IsPlainMachine m) }
     ensures sound { IfOk result (λ m. IsSoundMachine m) }
-    ensures ok { IfOk result (λ m. IfSome (F.contents files.old) (λ store. Prepares store edl.now script.now (Ok m))) }
-    ensures err { IfErr result (λ fault. HasCause edl.now script.now (shown (F.contents files.old) (F.read_faults files.old) (F.misses files.old)) (shown (F.contents files.new) (F.read_faults files.new) (F.misses files.new)) fault) }
-    ensures kept { F.contents files.new ≡ F.contents files.old }
-    ensures write_faults { F.write_faults files.new ≡ F.write_faults files.old }
+    ensures ok { IfOk result (λ m. FilesGive (F.state files.old) edl.now script.now (Ok m)) }
+    ensures err { IfErr result
+        (OrMemory PrepareFault.Memory (IsUnprepared edl.now script.now (F.state files.old) (F.state files.new))) }
+    ensures kept { AreOnlyRead (F.state files.old) (F.state files.new) }
 {
     let gathered = read_edl(alloc, files, edl)?;
     let text = read_file(alloc, files, script)?;

@@ -1,6 +1,7 @@
 //! From the bytes of the root EDL file to the interface that the runner takes of it.
 
 ghost use Rattle.std.specs.Prelude.{◌≡◌, ◌≤◌, ◌<◌, ◌^◌, ℕ, [], ◌∷◌, length, slice_get, IfOk, IfErr, IfSome, OnOk, OnErr, Ok, true};
+ghost use Rattle.sgx_base.specs.Outcome.{OrMemory};
 ghost use Rattle.sgx_base.specs.Stores.{max_file_size};
 ghost use Rattle.edl_lexer.specs.Bounds.{LieIn};
 ghost use Rattle.edl_lexer.specs.Lexing.{lexing};
@@ -12,7 +13,7 @@ ghost use Rattle.edl_interface.specs.Sound.{IsSound};
 ghost use Rattle.edl_interface.specs.Runnable.{IsRunnable};
 ghost use Rattle.call_machine.specs.Plain.{IsPlainInterface};
 ghost use Rattle.call_engine.specs.RootFile as spec;
-ghost use Rattle.call_engine.specs.RootFile.{Told, IsRead, IsMisread, IsLaidOut, IsTaken, IsRefused, no_foreign};
+ghost use Rattle.call_engine.specs.RootFile.{Told, IsAtFirst, IsRead, IsMisread, IsLaidOut, IsTaken, IsRefused, no_foreign};
 
 use crate::taken::is_taken;
 use attr_rules::{RuleFault, check};
@@ -70,7 +71,7 @@ fn tokens_of(alloc: Global, bytes: &[u8]) -> Result<Vec<Token>, RuleFault>
     requires { length bytes.now ≤ max_file_size }
     ensures ok { IfOk result (λ tokens. lexing 0 bytes.now ≡ Ok tokens.items) }
     ensures within { IfOk result (λ tokens. LieIn bytes.now tokens.items 0) }
-    ensures err { IfErr result (Told (IsMisread bytes.now)) }
+    ensures err { IfErr result (OrMemory RuleFault.Memory (Told (IsMisread bytes.now))) }
 {
     match lex(alloc, 0, bytes) {
         Ok(tokens) => Ok(tokens),
@@ -83,7 +84,7 @@ fn tree_of(alloc: Global, bytes: &[u8], tokens: &[Token]) -> Result<EdlFile, Rul
     requires within { LieIn bytes.now tokens.now 0 }
     requires lexed { lexing 0 bytes.now ≡ Ok tokens.now }
     ensures ok { IfOk result (λ tree. Parses 0 bytes.now tokens.now (Ok tree)) }
-    ensures err { IfErr result (Told (IsMisread bytes.now)) }
+    ensures err { IfErr result (OrMemory RuleFault.Memory (Told (IsMisread bytes.now))) }
 {
     match parse(alloc, 0, bytes, tokens) {
         Ok(tree) => Ok(tree),
@@ -110,7 +111,7 @@ fn fault_at(tokens: &[Token], token: u32, code: u8) -> Fault
 /// One file is taken, so an import is one too many: at its text, before the file that it names is looked for.
 fn refuse_imports(tokens: &[Token], imports: &[Import]) -> Result<(), Fault>
     ensures none { OnOk result (imports.now ≡ []) }
-    ensures first { IfErr result (λ f. IfSome (slice_get imports.now 0) (λ first. f ≡ fault_by 0 11 (slice_get tokens.now first.token))) }
+    ensures first { IfErr result (IsAtFirst imports.now tokens.now) }
     ensures some { OnErr result (0 < length imports.now) }
 {
     match imports.get(0) {
@@ -160,7 +161,7 @@ fn alone(
 pub(crate) fn read_root(alloc: Global, name: &str, bytes: &[u8]) -> Result<Gathered, RuleFault>
     requires { length bytes.now ≤ max_file_size }
     ensures ok { IfOk result (IsRead name.now bytes.now) }
-    ensures err { IfErr result (Told (IsMisread bytes.now)) }
+    ensures err { IfErr result (OrMemory RuleFault.Memory (Told (IsMisread bytes.now))) }
 {
     let tokens = tokens_of(alloc, bytes)?;
     let tree = tree_of(alloc, bytes, &tokens)?;
@@ -181,7 +182,7 @@ fn layouts_with(
 ) -> Result<Layouts, RuleFault>
     requires { foreign.now ≡ no_foreign }
     ensures ok { IfOk result (IsLaidOut gathered.now) }
-    ensures err { IfErr result (Told (IsRefused gathered.now)) }
+    ensures err { IfErr result (OrMemory RuleFault.Memory (Told (IsRefused gathered.now))) }
 {
     match layout_of(alloc, gathered, foreign) {
         Ok(layouts) => Ok(layouts),
@@ -192,7 +193,7 @@ fn layouts_with(
 /// The layouts of a file.
 fn laid_out(alloc: Global, gathered: &Gathered) -> Result<Layouts, RuleFault>
     ensures ok { IfOk result (IsLaidOut gathered.now) }
-    ensures err { IfErr result (Told (IsRefused gathered.now)) }
+    ensures err { IfErr result (OrMemory RuleFault.Memory (Told (IsRefused gathered.now))) }
 {
     let foreign = ForeignTypes {
         types: Items::new(alloc),
@@ -209,7 +210,7 @@ fn accepted(alloc: Global, gathered: &Gathered, layouts: &Layouts) -> Result<Int
     ensures ok { IfOk result (λ i. checked gathered.now layouts.now true ≡ Ok i) }
     ensures sound { IfOk result IsSound }
     ensures runnable { IfOk result IsRunnable }
-    ensures err { IfErr result (Told (IsRefused gathered.now)) }
+    ensures err { IfErr result (OrMemory RuleFault.Memory (Told (IsRefused gathered.now))) }
 {
     check(alloc, gathered, layouts, true)
 }
@@ -221,7 +222,7 @@ pub(crate) fn taken_interface(alloc: Global, gathered: &Gathered) -> Result<Inte
     ensures ok { IfOk result (IsTaken gathered.now) }
     ensures sound { IfOk result IsSound }
     ensures plain { IfOk result IsPlainInterface }
-    ensures err { IfErr result (Told (IsRefused gathered.now)) }
+    ensures err { IfErr result (OrMemory RuleFault.Memory (Told (IsRefused gathered.now))) }
 {
     let layouts = laid_out(alloc, gathered)?;
     let interface = accepted(alloc, gathered, &layouts)?;

@@ -1,38 +1,54 @@
 -- What the statuses of the program mean.
-use Rattle.std.specs.Prelude.{ℕ, ◌≡◌, ◌++◌, List, take, Option, option_map, IfSome, Ok}
+use Rattle.std.specs.Prelude.{ℕ, ◌≡◌, ◌⊎◌, List, Some, Ok, Err}
+use Rattle.sgx_base.specs.Lines.{edl_line, script_line, unread_line, missing_line}
+use Rattle.sgx_base.specs.Sinks.{SinkState, SinkFailed, Wrote, WrotePart}
+use Rattle.sgx_base.specs.Stores.{Store, FilesState, ReadFailed, Missed}
+use Rattle.sgx_base.specs.declared.Fault.{Fault}
+use Rattle.word_port.specs.declared.RunFull.{RunFull}
 use Rattle.call_machine.specs.declared.Machine.{Machine}
-use Rattle.call_engine.specs.Prepared.{Shown, Gives}
-use Rattle.call_machine.specs.Reported.{IsReportOf}
-use Rattle.run_laws.specs.Reports.{IsProtectedReport}
+use Rattle.call_machine.specs.Reported.{IsCutBy}
+use Rattle.call_engine.specs.declared.preparing.PrepareFault.{PrepareFault}
+use Rattle.call_engine.specs.Prepared.{Prepares}
 use Rattle.callrun.specs.declared.Ending.{Ending}
-use Rattle.callrun.specs.Endings.{AreNames, HasCause, status_of, text_of}
+use Rattle.callrun.specs.declared.Ending.TheVariants.{Usage, Edl, Script, Unread, Missing, Reported, Cut}
+use Rattle.callrun.specs.Endings.{AreNames, Ends, text_of, usage_line, full_line}
 
--- the sink grew by exactly this text, where it tells what was written
-abbrev pub GrewBy : List ℕ → Option (List ℕ) → Option (List ℕ) → Type 0
-GrewBy text before after = after ≡ option_map (λ written. written ++ text) before
-
--- the call ended so, with its cause, and the whole text was written
-pub record IsAnswered (words : List (List ℕ)) (before after : Shown) (old new : Option (List ℕ)) (status : ℕ) : Type 0 where
+-- the call came to an ending, with its cause, and of the text of it a part was written
+pub record IsBroken (words : List (List ℕ)) (before after : FilesState) (old new : SinkState) : Type 0 where
   pub ending : Ending
-  pub status_is : status_of ending ≡ status
-  pub cause : HasCause words before after ending
-  pub grew : GrewBy (text_of ending) old new
+  pub cause : Ends words before after ending
+  pub part : WrotePart (text_of ending) old new
 
--- the call came to an ending, with its cause, and the first bytes of the text were written
-pub record IsBroken (words : List (List ℕ)) (before after : Shown) (old new : Option (List ℕ)) : Type 0 where
-  pub ending : Ending
-  pub cause : HasCause words before after ending
-  pub count : ℕ
-  pub grew : GrewBy (take count (text_of ending)) old new
+-- what each status tells of the words, of the files before and after the call, and of the sink before and after it
+pub data Answers (words : List (List ℕ)) (before after : FilesState) (old new : SinkState) : ℕ → Type 0 where
+  reported : (text : List ℕ) → Ends words before after (Reported text) → Wrote text old new
+      → Answers words before after old new 0
+  usage : Ends words before after Usage → Wrote usage_line old new → Answers words before after old new 1
+  edl_fault : (name : List ℕ) (fault : Fault) → Ends words before after (Edl name fault)
+      → Wrote (edl_line name fault) old new → Answers words before after old new 2
+  script_fault : (name : List ℕ) (line code : ℕ) → Ends words before after (Script name line code)
+      → Wrote (script_line name line code) old new → Answers words before after old new 3
+  unread : (name : List ℕ) → Ends words before after (Unread name) → Wrote (unread_line name) old new
+      → Answers words before after old new 4
+  refused : IsBroken words before after old new → SinkFailed old new → Answers words before after old new 5
+  out_of_memory : (new ≡ old) ⊎ IsBroken words before after old new → Answers words before after old new 6
+  missing : (name : List ℕ) → Ends words before after (Missing name) → Wrote (missing_line name) old new
+      → Answers words before after old new 7
+  full : (limit : RunFull) → Ends words before after (Cut limit) → Wrote full_line old new
+      → Answers words before after old new 8
 
--- the sink grew by exactly the report of the machine that the files of these names give
-pub record IsDone (words : List (List ℕ)) (before : Shown) (old new : Option (List ℕ)) : Type 0 where
+-- the words name files that are told, have no fault, and give a machine whose run no limit cuts
+pub record IsRunnable (words : List (List ℕ)) (files : FilesState) : Type 0 where
   pub edl : List ℕ
   pub script : List ℕ
   pub names : AreNames words edl script
-  pub machine : Machine
-  pub gives : Gives before.contents edl script (Ok machine)
-  pub text : List ℕ
-  pub report : IsReportOf machine text
-  pub protected : IsProtectedReport machine text
-  pub grew : GrewBy text old new
+  pub store : Store
+  pub told : files.contents ≡ Some store
+  pub faultless : (fault : PrepareFault) → ¬ Prepares store edl script (Err fault)
+  pub uncut : (m : Machine) (limit : RunFull) → Prepares store edl script (Ok m) → ¬ IsCutBy m limit
+
+-- no read failed, no name was missed, and the sink took what was written
+pub record NothingFailed (before after : FilesState) (old new : SinkState) : Type 0 where
+  pub read : ¬ ReadFailed before after
+  pub found : ¬ Missed before after
+  pub taken : ¬ SinkFailed old new

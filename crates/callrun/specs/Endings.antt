@@ -1,13 +1,13 @@
 -- How a call of the program ends, why, and what it writes then.
-use Rattle.std.specs.Prelude.{ℕ, ◌≡◌, ◌++◌, false, Bool, List, [], ◌∷◌, codes, decimal, Ok}
+use Rattle.std.specs.Prelude.{ℕ, ◌≡◌, false, Bool, List, [], ◌∷◌, codes, nat_eq, Ok}
 use Rattle.std.specs.List.{starts_with}
-use Rattle.std.specs.Prelude.{nat_eq}
-use Rattle.sgx_base.specs.Messages.{edl_message, script_message}
-use Rattle.sgx_base.specs.declared.Fault.{Fault}
+use Rattle.sgx_base.specs.Lines.{edl_line, script_line, unread_line, missing_line}
+use Rattle.sgx_base.specs.Stores.{FilesState}
+use Rattle.word_port.specs.declared.RunFull.{RunFull}
 use Rattle.call_machine.specs.declared.Machine.{Machine}
-use Rattle.call_engine.specs.declared.preparing.PrepareFault.TheVariants.{Edl as edl_fault, Script as script_fault, NotFound, ReadFault}
-use Rattle.call_engine.specs.Prepared.{Shown, HasCause as IsUnprepared, Gives}
 use Rattle.call_machine.specs.Reported.{IsReportOf, IsCutBy}
+use Rattle.call_engine.specs.declared.preparing.PrepareFault.TheVariants.{Edl as edl_fault, Script as script_fault, NotFound, ReadFault}
+use Rattle.call_engine.specs.Prepared.{FilesGive, IsUnprepared}
 use Rattle.run_laws.specs.Reports.{IsProtectedReport}
 use Rattle.callrun.specs.declared.Ending.{Ending}
 use Rattle.callrun.specs.declared.Ending.TheVariants.{Usage, Edl, Script, Unread, Missing, Reported, Cut}
@@ -22,45 +22,60 @@ pub record AreNames (words : List (List ℕ)) (edl script : List ℕ) : Type 0 w
   pub edl_is_name : is_option edl ≡ false
   pub script_is_name : is_option script ≡ false
 
--- why a call with these names ends so, where files show this before and that after
-abbrev pub HasFileCause : List ℕ → List ℕ → Shown → Shown → Ending → Type 0
-HasFileCause edl script before after Usage = ⊥
-HasFileCause edl script before after (Edl name fault) = IsUnprepared edl script before after (edl_fault name fault)
-HasFileCause edl script before after (Script name line code) = (name ≡ script) × IsUnprepared edl script before after (script_fault line code)
-HasFileCause edl script before after (Unread name) = IsUnprepared edl script before after (ReadFault name)
-HasFileCause edl script before after (Missing name) = IsUnprepared edl script before after (NotFound name)
-HasFileCause edl script before after (Reported text) = (m : Machine) × Gives before.contents edl script (Ok m) × IsReportOf m text × IsProtectedReport m text
-HasFileCause edl script before after (Cut full) = (m : Machine) × Gives before.contents edl script (Ok m) × IsCutBy m full
+-- the files of these names give a machine, and the text is the report of its one run, which is protected
+pub record IsReport (files : FilesState) (edl script text : List ℕ) : Type 0 where
+  pub machine : Machine
+  pub gives : FilesGive files edl script (Ok machine)
+  pub report : IsReportOf machine text
+  pub protected : IsProtectedReport machine text
 
--- why a call with these words ends so: the words are no two names, or by what the files are
-abbrev pub HasCause : List (List ℕ) → Shown → Shown → Ending → Type 0
-HasCause words before after Usage = (edl script : List ℕ) → ¬ AreNames words edl script
-HasCause words before after ending = (edl : List ℕ) × (script : List ℕ) × AreNames words edl script × HasFileCause edl script before after ending
+-- the files of these names give a machine, and the limit cuts its run
+pub record IsCut (files : FilesState) (edl script : List ℕ) (limit : RunFull) : Type 0 where
+  pub machine : Machine
+  pub gives : FilesGive files edl script (Ok machine)
+  pub cut : IsCutBy machine limit
+
+-- why a call with these names ends so, where the files were so before and are so after
+abbrev pub HasCause : List ℕ → List ℕ → FilesState → FilesState → Ending → Type 0
+HasCause edl script before after Usage = ⊥
+HasCause edl script before after (Edl name fault) = IsUnprepared edl script before after (edl_fault name fault)
+HasCause edl script before after (Script name line code) =
+    (name ≡ script) × IsUnprepared edl script before after (script_fault line code)
+HasCause edl script before after (Unread name) = IsUnprepared edl script before after (ReadFault name)
+HasCause edl script before after (Missing name) = IsUnprepared edl script before after (NotFound name)
+HasCause edl script before after (Reported text) = IsReport before edl script text
+HasCause edl script before after (Cut limit) = IsCut before edl script limit
+
+-- why a call with these words ends so: they are no two names, or by what the files of these names are
+abbrev pub Ends : List (List ℕ) → FilesState → FilesState → Ending → Type 0
+Ends words before after Usage = (edl script : List ℕ) → ¬ AreNames words edl script
+Ends words before after ending =
+    (edl : List ℕ) × (script : List ℕ) × AreNames words edl script × HasCause edl script before after ending
 
 -- the status of an ending
 abbrev pub status_of : Ending → ℕ
+status_of (Reported text) = 0
 status_of Usage = 1
 status_of (Edl name fault) = 2
 status_of (Script name line code) = 3
 status_of (Unread name) = 4
 status_of (Missing name) = 7
-status_of (Reported text) = 0
-status_of (Cut full) = 8
+status_of (Cut limit) = 8
 
--- a place in an EDL file, and what is wrong there
-abbrev pub edl_line : Fault → List ℕ
-edl_line fault = codes ":" ++ (decimal fault.line ++ (codes ":" ++ (decimal fault.column ++ (codes ": error E" ++ (decimal fault.code ++ (codes ": " ++ (edl_message fault.code ++ codes "\n")))))))
+-- the line of words that are no two names
+abbrev pub usage_line : List ℕ
+usage_line = codes "usage: sgx_callrun FILE SCRIPT\n"
 
--- a line of a script, and what is wrong there
-abbrev pub script_line : ℕ → ℕ → List ℕ
-script_line line code = codes ":" ++ (decimal line ++ (codes ": script S" ++ (decimal code ++ (codes ": " ++ (script_message code ++ codes "\n")))))
+-- the line of a run that a limit cuts
+abbrev pub full_line : List ℕ
+full_line = codes "full: thread 0\n"
 
--- what is written at an ending: a line, or the report
+-- what is to be written at an ending: the report, or a line
 abbrev pub text_of : Ending → List ℕ
-text_of Usage = codes "usage: sgx_callrun FILE SCRIPT\n"
-text_of (Edl name fault) = name ++ edl_line fault
-text_of (Script name line code) = name ++ script_line line code
-text_of (Unread name) = codes "read fault: " ++ (name ++ codes "\n")
-text_of (Missing name) = codes "not found: " ++ (name ++ codes "\n")
 text_of (Reported text) = text
-text_of (Cut full) = codes "full: thread 0\n"
+text_of Usage = usage_line
+text_of (Edl name fault) = edl_line name fault
+text_of (Script name line code) = script_line name line code
+text_of (Unread name) = unread_line name
+text_of (Missing name) = missing_line name
+text_of (Cut limit) = full_line

@@ -1,5 +1,5 @@
 -- Beyond the last code there is no text.
-use Rattle.std.proofs.Common.{rules, arith, ℕ, ◌≡◌, ◌<◌, ◌≤◌, zero, suc, [], length, refl}
+use Rattle.std.proofs.Common.{arith, ℕ, ◌≡◌, ◌<◌, zero, suc, [], refl}
 use Rattle.std.proofs.lemmas.Option.{slice_get_past}
 use Rattle.sgx_base.specs.Messages.{edl_message, edl_messages, script_message, script_messages}
 

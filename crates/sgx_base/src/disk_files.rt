@@ -56,15 +56,9 @@ fn read_bytes<F: Read + Drop>(alloc: Global, file: F) -> io::Result<Vec<u8>> {
 }
 
 impl<R: rt::Files> Files for DiskFiles<R> {
-    ghost use Rattle.std.specs.Prelude.{None};
+    ghost use Rattle.sgx_base.specs.Stores.{untold};
 
-    ghost contents = { λ _. None };
-
-    ghost read_faults = { λ files. files.read_faults };
-
-    ghost write_faults = { λ files. files.write_faults };
-
-    ghost misses = { λ files. files.misses };
+    ghost state = { λ files. untold files.read_faults files.write_faults files.misses };
 
     fn read(&mut self, alloc: Global, name: &str) -> Result<Option<Vec<u8>>, FileFault> {
         let file = match fs::open(&self.rt, name) {

@@ -3,8 +3,8 @@ ghost use Rattle.std.specs.Prelude.{◌≡◌, ◌≤◌, ◌↔◌, IsTrue, Ok,
 ghost use Rattle.std.specs.Option.{option_copied};
 ghost use Rattle.std.specs.Str.{bytes_eq};
 ghost use Rattle.sgx_base.specs.Counts.{raised};
-ghost use Rattle.sgx_base.specs.Stores.{AreOthersKept, IsWritten};
-ghost use Rattle.sgx_base.specs.MemStores.{stored, with_file, is_failing, read_answer, after_answer};
+ghost use Rattle.sgx_base.specs.Stores.{AreOnlyRead, IsOnlyWritten, IsWriteOf};
+ghost use Rattle.sgx_base.specs.MemStores.{stored, with_file, empty_store, with_bytes, called, after_failed_write, state_of, is_failing, read_answer, after_answer};
 
 use crate::files::{FileFault, Files, MAX_FILE_SIZE};
 use sqlite_items::Items;
@@ -87,7 +87,7 @@ fn find_file<'a>(files: &'a [StoredFile], name: &[u8]) -> Option<&'a StoredFile>
 impl MemFiles {
     /// An empty store. The calls with these numbers fail; reads and writes are counted together, from 1.
     pub fn new(alloc: Global, failing: &[u32]) -> Result<MemFiles, AllocError>
-        ensures { IfOk result (λ store. store ≡ record { files = []; failing = failing.now; calls = 0; read_faults = 0; write_faults = 0; misses = 0 }) }
+        ensures { IfOk result (λ store. store ≡ empty_store failing.now) }
     {
         Ok(MemFiles {
             alloc,
@@ -102,7 +102,7 @@ impl MemFiles {
 
     /// Sets a file's bytes. This is no counted call, and never one that fails by its number.
     pub fn put(&mut self, name: &str, bytes: &[u8]) -> Result<(), AllocError>
-        ensures ok { OnOk result (self.new ≡ record self.old { files = with_file (record { name = name.now; bytes = bytes.now }) self.old.files }) }
+        ensures ok { OnOk result (self.new ≡ with_bytes name.now bytes.now self.old) }
         ensures err { OnErr result (self.new ≡ self.old) }
     {
         let file = StoredFile::new(self.alloc, name, bytes)?;
@@ -120,7 +120,7 @@ impl MemFiles {
     /// Counts a call, and says whether it is one of those that fail.
     fn count_call(&mut self) -> bool
         ensures fails { result ≡ is_failing self.old.failing self.old.calls }
-        ensures counted { self.new ≡ record self.old { calls = raised self.old.calls } }
+        ensures counted { self.new ≡ called self.old }
     {
         let number = self.calls.saturating_add(1);
         self.calls = number;
@@ -131,22 +131,13 @@ impl MemFiles {
 }
 
 impl Files for MemFiles {
-    ghost use Rattle.sgx_base.specs.MemStores.{stored};
-
-    ghost contents = { λ store. Some (stored store.files) };
-
-    ghost read_faults = { λ store. store.read_faults };
-
-    ghost write_faults = { λ store. store.write_faults };
-
-    ghost misses = { λ store. store.misses };
+    ghost state = { state_of };
 
     fn read(&mut self, alloc: Global, name: &str) -> Result<Option<Vec<u8>>, FileFault>
         ensures ok { IfOk result (λ file. read_answer name.now self.old ≡ Ok (option_map (λ v. v.items) file)) }
         ensures failed { (result ≡ Err FileFault.Failed) ↔ (read_answer name.now self.old ≡ Err FileFault.Failed) }
         ensures counted { self.new ≡ after_answer (read_answer name.now self.old) self.old }
-        ensures read_faults_grow { self.old.read_faults ≤ self.new.read_faults }
-        ensures misses_grow { self.old.misses ≤ self.new.misses }
+        ensures kept { AreOnlyRead (state_of self.old) (state_of self.new) }
     {
         if self.count_call() {
             self.read_faults = self.read_faults.saturating_add(1);
@@ -169,12 +160,11 @@ impl Files for MemFiles {
     #[tactic(auto, using(crate::proofs::StoredFiles::writes, crate::proofs::StoredFiles::stored_others))]
     fn write(&mut self, _alloc: Global, name: &str, bytes: &[u8]) -> Result<(), FileFault>
         ensures fails { (result ≡ Err FileFault.Failed) ↔ IsTrue (is_failing self.old.failing self.old.calls) }
-        ensures ok { OnOk result (self.new ≡ record self.old { files = with_file (record { name = name.now; bytes = bytes.now }) self.old.files; calls = raised self.old.calls }) }
-        ensures failed { result ≡ Err FileFault.Failed → self.new ≡ record self.old { calls = raised self.old.calls; write_faults = raised self.old.write_faults } }
-        ensures memory { result ≡ Err FileFault.Memory → self.new ≡ record self.old { calls = raised self.old.calls } }
-        ensures write_faults_grow { self.old.write_faults ≤ self.new.write_faults }
-        ensures written { OnOk result (IsWritten name.now bytes.now (stored self.old.files) (stored self.new.files)) }
-        ensures others { AreOthersKept name.now (stored self.old.files) (stored self.new.files) }
+        ensures ok { OnOk result (self.new ≡ called (with_bytes name.now bytes.now self.old)) }
+        ensures failed { result ≡ Err FileFault.Failed → self.new ≡ after_failed_write self.old }
+        ensures memory { result ≡ Err FileFault.Memory → self.new ≡ called self.old }
+        ensures kept { IsOnlyWritten name.now (state_of self.old) (state_of self.new) }
+        ensures told { IsWriteOf name.now bytes.now result (state_of self.old) (state_of self.new) }
     {
         if self.count_call() {
             self.write_faults = self.write_faults.saturating_add(1);

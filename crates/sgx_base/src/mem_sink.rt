@@ -1,7 +1,7 @@
 //! A sink in memory, for tests.
 ghost use Rattle.std.specs.Prelude.{◌≡◌, ◌≤◌, ◌↔◌, IsTrue, Ok, Err, OnOk, IfOk, Some, [], ◌++◌};
 ghost use Rattle.sgx_base.specs.Counts.{raised};
-ghost use Rattle.sgx_base.specs.MemStores.{is_failing};
+ghost use Rattle.sgx_base.specs.MemStores.{empty_text, is_failing, with_piece, after_failed_piece};
 
 use crate::sink::{Sink, SinkFault};
 use std::alloc::{AllocError, Global};
@@ -21,13 +21,18 @@ impl Model for MemSink {
 
     ghost Value = { MemText };
 
-    ghost view = { λ s. record { written = s.written.items; failing = s.failing.items; calls = s.calls; faults = s.faults } };
+    ghost view = { λ s. record {
+      written = s.written.items;
+      failing = s.failing.items;
+      calls = s.calls;
+      faults = s.faults;
+    } };
 }
 
 impl MemSink {
     /// An empty sink. The writes with these numbers fail, counted from 1.
     pub fn new(alloc: Global, failing: &[u32]) -> Result<MemSink, AllocError>
-        ensures { IfOk result (λ sink. sink ≡ record { written = []; failing = failing.now; calls = 0; faults = 0 }) }
+        ensures { IfOk result (λ sink. sink ≡ empty_text failing.now) }
     {
         Ok(MemSink {
             written: Vec::new(alloc),
@@ -58,14 +63,12 @@ impl MemSink {
 }
 
 impl Sink for MemSink {
-    ghost written = { λ sink. Some sink.written };
-
-    ghost faults = { λ sink. sink.faults };
+    ghost state = { λ sink. record { written = Some sink.written; faults = sink.faults } };
 
     fn write(&mut self, piece: &[u8]) -> Result<(), SinkFault>
         ensures fails { (result ≡ Err SinkFault.Failed) ↔ IsTrue (is_failing self.old.failing self.old.calls) }
-        ensures ok { OnOk result (self.new ≡ record self.old { written = self.old.written ++ piece.now; calls = raised self.old.calls }) }
-        ensures failed { result ≡ Err SinkFault.Failed → self.new ≡ record self.old { calls = raised self.old.calls; faults = raised self.old.faults } }
+        ensures ok { OnOk result (self.new ≡ with_piece self.old piece.now) }
+        ensures failed { result ≡ Err SinkFault.Failed → self.new ≡ after_failed_piece self.old }
         ensures memory { result ≡ Err SinkFault.Memory → self.new ≡ record self.old { calls = raised self.old.calls } }
         ensures faults_grow { self.old.faults ≤ self.new.faults }
     {

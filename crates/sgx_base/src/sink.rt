@@ -1,5 +1,8 @@
 //! Where texts are written.
 
+ghost use Rattle.std.specs.Prelude.{◌≡◌, OnOk, OnErr, Err};
+ghost use Rattle.sgx_base.specs.Sinks.{Wrote, WrotePart, SinkFailed};
+
 use thiserror::Error;
 
 /// Why a piece was not written whole.
@@ -13,20 +16,27 @@ pub enum SinkFault {
 
 /// A sink that takes pieces of text.
 ///
-/// `written` tells all bytes so far, or nothing. The count never falls.
+/// Its state tells all bytes so far, or nothing, and counts the writes that failed. The count never falls.
 pub trait Sink {
-    ghost use Rattle.std.specs.Prelude.{ℕ, List, ◌≡◌, ◌≤◌, ◌++◌, take, Option, Ok, Err, option_map, OnOk, OnErr};
-    ghost use Rattle.sgx_base.specs.Counts.{Rose};
-    ghost use Rattle.sgx_base.specs.declared.sink.SinkFault.TheVariants.{Failed};
+    ghost use Rattle.std.specs.Prelude.{◌≤◌};
+    ghost use Rattle.sgx_base.specs.Sinks.{SinkState, IsTextWrite};
 
-    ghost written: { Self → Option (List ℕ) };
-
-    ghost faults: { Self → ℕ };
+    ghost state: { Self → SinkState };
 
     /// Appends the piece, or at an Err the first bytes of it.
     fn write(&mut self, piece: &[u8]) -> Result<(), SinkFault>
-        ensures whole { OnOk result (written self.new ≡ option_map (λ before. before ++ piece.now) (written self.old)) }
-        ensures part { OnErr result ((n : ℕ) × (written self.new ≡ option_map (λ before. before ++ take n piece.now) (written self.old))) }
-        ensures faults_grow { faults self.old ≤ faults self.new }
-        ensures failed { result ≡ Err Failed → Rose (faults self.old) (faults self.new) };
+        ensures told { IsTextWrite piece.now result (state self.old) (state self.new) }
+        ensures faults_grow { (state self.old).faults ≤ (state self.new).faults };
+}
+
+/// Writes a text by one call, and an empty one by none.
+pub fn write_text<O: Sink>(out: &mut O, text: &[u8]) -> Result<(), SinkFault>
+    ensures whole { OnOk result (Wrote text.now (O.state out.old) (O.state out.new)) }
+    ensures part { OnErr result (WrotePart text.now (O.state out.old) (O.state out.new)) }
+    ensures failed { result ≡ Err SinkFault.Failed → SinkFailed (O.state out.old) (O.state out.new) }
+{
+    if text.is_empty() {
+        return Ok(());
+    }
+    out.write(text)
 }

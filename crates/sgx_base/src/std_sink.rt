@@ -54,9 +54,7 @@ fn write_whole<R: Print>(rt: &R, piece: &[u8]) -> io::Result<()> {
 impl<R: Print> Sink for StdSink<R> {
     ghost use Rattle.std.specs.Prelude.{None};
 
-    ghost written = { λ _. None };
-
-    ghost faults = { λ sink. sink.faults };
+    ghost state = { λ sink. record { written = None; faults = sink.faults } };
 
     fn write(&mut self, piece: &[u8]) -> Result<(), SinkFault> {
         match write_whole(&self.rt, piece) {

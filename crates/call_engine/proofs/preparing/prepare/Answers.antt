@@ -1,6 +1,5 @@
 use Rattle.std.proofs.Common.{rules}
-use Rattle.call_engine.specs.Prepared.{shown}
-use Rattle.call_engine.proofs.CauseLaws.{script_unread, prepared, unprepared}
+use Rattle.call_engine.proofs.CauseLaws.{unread_script, prepared, unprepared}
 use Rattle.call_engine.proofs.SoundLaws.{sound_if_plain}
 use Rattle.call_engine.proofs.preparing.prepare.Goals as goal
 
@@ -9,26 +8,26 @@ returns-in_err-gathered-clause-err g c = let h = c.in_err-gathered.ensures.err c
 
 pub returns-in_err-text-clause-err : goal.returns-in_err-text-clause-err
 returns-in_err-text-clause-err g c =
-    let h = script_unread c.args.edl.now c.args.script.now c.in_ok-gathered.gathered
-    (shown (g.F.Files.contents c.args.files.now) (g.F.Files.read_faults c.args.files.now) (g.F.Files.misses c.args.files.now))
-    (shown (g.F.Files.contents c.read_edl.new.files) (g.F.Files.read_faults c.read_edl.new.files) (g.F.Files.misses c.read_edl.new.files))
-    (shown (g.F.Files.contents c.read_file.new.files) (g.F.Files.read_faults c.read_file.new.files) (g.F.Files.misses c.read_file.new.files))
+    let h = unread_script c.args.edl.now c.args.script.now c.in_ok-gathered.gathered
+    (g.F.Files.state c.args.files.now)
+    (g.F.Files.state c.read_edl.new.files)
+    (g.F.Files.state c.read_file.new.files)
     c.in_err-text.field-0.0 c.read_edl.ensures.kept c.in_ok-gathered.ensures.ok c.in_err-text.ensures.err in
     search rules
 
 pub returns-clause-ok : goal.returns-clause-ok
 returns-clause-ok g c =
     prepared c.args.edl.now c.args.script.now c.in_ok-text.text.items c.deref.result.now c.in_ok-gathered.gathered c.machine_of.result
-    (shown (g.F.Files.contents c.args.files.now) (g.F.Files.read_faults c.args.files.now) (g.F.Files.misses c.args.files.now))
-    (shown (g.F.Files.contents c.read_edl.new.files) (g.F.Files.read_faults c.read_edl.new.files) (g.F.Files.misses c.read_edl.new.files))
+    (g.F.Files.state c.args.files.now)
+    (g.F.Files.state c.read_edl.new.files)
     c.read_edl.ensures.kept c.deref.ensures.value c.in_ok-gathered.ensures.ok c.in_ok-text.ensures.ok c.machine_of.ensures.ok
 
 pub returns-clause-err : goal.returns-clause-err
 returns-clause-err g c =
     unprepared c.args.edl.now c.args.script.now c.in_ok-text.text.items c.deref.result.now c.in_ok-gathered.gathered c.machine_of.result
-    (shown (g.F.Files.contents c.args.files.now) (g.F.Files.read_faults c.args.files.now) (g.F.Files.misses c.args.files.now))
-    (shown (g.F.Files.contents c.read_edl.new.files) (g.F.Files.read_faults c.read_edl.new.files) (g.F.Files.misses c.read_edl.new.files))
-    (shown (g.F.Files.contents c.read_file.new.files) (g.F.Files.read_faults c.read_file.new.files) (g.F.Files.misses c.read_file.new.files))
+    (g.F.Files.state c.args.files.now)
+    (g.F.Files.state c.read_edl.new.files)
+    (g.F.Files.state c.read_file.new.files)
     c.read_edl.ensures.kept c.deref.ensures.value c.in_ok-gathered.ensures.ok c.in_ok-text.ensures.ok c.machine_of.ensures.err
 
 pub returns-clause-sound : goal.returns-clause-sound

@@ -1,7 +1,6 @@
-use Rattle.std.proofs.Common.{◌≡◌, ◌++◌, ◌∷◌, [], ◌∙◌, sym, ap, arith, List}
+use Rattle.std.proofs.Common.{◌++◌, ◌∷◌, [], ◌∙◌, sym, ap, arith, List}
 use Rattle.std.proofs.lemmas.List.FromFn.{map-range_with_len_more}
 use Rattle.edl_grammar.specs.declared.Pick.{Pick}
-use Rattle.call_engine.specs.RootFile.{picks}
 use Rattle.call_engine.proofs.root_file.picks.Goals as goal
 
 pub loop-index-preserved : goal.loop-index-preserved

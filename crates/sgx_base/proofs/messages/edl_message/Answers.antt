@@ -1,4 +1,3 @@
-use Rattle.std.proofs.Common.{rules}
 use Rattle.sgx_base.proofs.MessageLaws.{edl_message_past}
 use Rattle.sgx_base.proofs.messages.edl_message.Goals as goal
 

@@ -1,4 +1,3 @@
-use Rattle.std.proofs.Common.{rules}
 use Rattle.sgx_base.proofs.MessageLaws.{script_message_past}
 use Rattle.sgx_base.proofs.messages.script_message.Goals as goal
 
