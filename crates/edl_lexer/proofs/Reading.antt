@@ -1,5 +1,5 @@
 -- What stands at the front of a text is the longest lexeme there.
-use Rattle.std.specs.Prelude.{if◌then◌else◌, ◌==◌, ◌&&◌, nat_eq, slice_index, not, codes, IsTrue, IsSome, is_some, option_map, cond}
+use Rattle.std.specs.Prelude.{if◌then◌else◌, ◌==◌, ◌&&◌, nat_eq, slice_index, not, codes, IsTrue, IsFalse, IsSome, is_some, option_map, cond}
 use Rattle.std.proofs.Common.{get_or, length-take, arith, ◌≡◌, ◌≤◌, ◌<◌, ◌+◌, ℕ, zero, suc, Bool, true, false, List, [], ◌∷◌, length, take, drop, refl, sym, ◌∙◌, ap, subst, Option, Some, None}
 use Rattle.std.specs.List.{prefix_len, starts_with}
 use Rattle.std.specs.Char.{is_ascii_digit, is_ascii_hexdigit}
@@ -18,6 +18,7 @@ use Rattle.edl_lexer.specs.declared.scan.Lexeme.TheVariants.{Gap, Piece, No}
 use Rattle.edl_lexer.specs.Lexemes.{is_blank, is_letter, is_word, is_mark, is_inside_text, class_of, lexeme, lexeme_of, text, comment, closed, close_len, number, valued, number_len, has_hex_front}
 use Rattle.edl_lexer.specs.Lexing.{is_number as is_number_kind}
 use Rattle.edl_lexer.specs.Division.{is_at, is_comment, is_lexeme, is_lexeme_of, IsLongest, is_number, is_number_of, kind_of, kind_by}
+use Rattle.edl_lexer.specs.FirstFault.{HasNoLexeme, BeginsTooWide, opens_comment, opens_text}
 use Rattle.edl_lexer.proofs.Longest.{left_false, right_false, neither, both, all_front, all_longer, text_closed, text_other, text_open, close-least, close-take, close-none, hexadecimal_front, hexadecimal_longer, decimal_front, decimal_longer}
 
 -- the first n bytes are the longest lexeme, and of this kind
@@ -28,22 +29,13 @@ pub record Read (n : ℕ) (its_kind : Option TokenKind) (numeric : Bool) (bytes 
   pub number : is_number (take n bytes) ≡ numeric
   pub sound : IsTrue numeric → IsSome (spelled_number (take n bytes))
 
--- the first n bytes are a number above 64 bits
-pub record TooWide (n : ℕ) (bytes : List ℕ) : Type 0 where
-  pub some : 0 < n
-  pub long : IsLongest n bytes
-  pub number : is_number (take n bytes) ≡ true
-  pub wide : spelled_number (take n bytes) ≡ None
-
-abbrev pub NoLexeme : List ℕ → Type 0
-NoLexeme bytes = (m : ℕ) → m ≤ length bytes → is_lexeme (take m bytes) ≡ false
-
+-- what is known where no lexeme is read
 abbrev pub Stops : Flaw → List ℕ → Type 0
-Stops BadByte bytes = NoLexeme bytes
-Stops OpenComment bytes = NoLexeme bytes
-Stops OpenText bytes = NoLexeme bytes
-Stops NumberTooWide bytes = (n : ℕ) × TooWide n bytes
-Stops TooManyTokens bytes = NoLexeme bytes
+Stops BadByte bytes = HasNoLexeme bytes × IsFalse (opens_comment bytes) × IsFalse (opens_text bytes)
+Stops OpenComment bytes = HasNoLexeme bytes × IsTrue (opens_comment bytes)
+Stops OpenText bytes = HasNoLexeme bytes × IsTrue (opens_text bytes)
+Stops NumberTooWide bytes = BeginsTooWide bytes
+Stops TooManyTokens bytes = ⊥
 
 abbrev pub Reads : Lexeme → List ℕ → Type 0
 Reads (Gap n) bytes = Read n None false bytes
@@ -55,20 +47,20 @@ abbrev Facts : Class → (letter digit quote slash : Bool) → Type 0
 Facts Blank l d q s = Unit {0}
 Facts Letter l d q s = l ≡ true
 Facts Digit l d q s = d ≡ true
-Facts Quote l d q s = Unit {0}
+Facts Quote l d q s = q ≡ true
 Facts Slash l d q s = s ≡ true
 Facts Marking l d q s = Unit {0}
-Facts Other l d q s = Unit {0}
+Facts Other l d q s = (q ≡ false) × (s ≡ false)
 
 class_facts : (blank l d q s mark : Bool)
     → Facts (if blank then Blank else (if l then Letter else (if d then Digit else (if q then Quote else (if s then Slash else (if mark then Marking else Other)))))) l d q s
 class_facts true l d q s mark = tt
 class_facts false true d q s mark = refl
 class_facts false false true q s mark = refl
-class_facts false false false true s mark = tt
+class_facts false false false true s mark = refl
 class_facts false false false false true mark = refl
 class_facts false false false false false true = tt
-class_facts false false false false false false = tt
+class_facts false false false false false false = (refl, refl)
 
 -- a lexeme of a class, by its bytes behind the first
 module _ (cls : Class) (b : ℕ) (bytes : List ℕ) (is : class_of b ≡ cls) where
@@ -90,7 +82,7 @@ module _ (cls : Class) (b : ℕ) (bytes : List ℕ) (is : class_of b ≡ cls) wh
       subst (λ x. Read x (kind_by cls (b ∷ take k bytes)) false (b ∷ bytes)) (sym e)
       (record { some = omega arith; long = longest_at k l h f; kind = ap (λ c. kind_by c (b ∷ take k bytes)) is; number = ap is_number_of is ∙ d; sound = λ t. cc })
 
-  none_at : ((j : ℕ) → j ≤ length bytes → is_lexeme_of cls (b ∷ take j bytes) ≡ false) → NoLexeme (b ∷ bytes)
+  none_at : ((j : ℕ) → j ≤ length bytes → is_lexeme_of cls (b ∷ take j bytes) ≡ false) → HasNoLexeme (b ∷ bytes)
   none_at f zero l = refl
   none_at f (suc j) l = at_class j ∙ f j (omega arith)
 
@@ -123,15 +115,15 @@ block bytes = go (close_len bytes) refl
         let w = close-least bytes n e in
         read_at Slash 47 (42 ∷ bytes) refl (2 + n) (suc n) (omega arith) (omega arith)
         (ap (is_at (length (take n bytes))) (close-take bytes n n e (omega arith)) ∙ eq-eqb n (length (take n bytes)) (omega (arith, length-take n bytes))) (longer n e) refl
-    go None e = none_at Slash 47 (42 ∷ bytes) refl (none e)
+    go None e = (none_at Slash 47 (42 ∷ bytes) refl (none e), refl)
 
-choose : (a b : Bool) (g h : Lexeme) (bytes : List ℕ) → a ≡ false → b ≡ false → NoLexeme bytes → Reads (if a then g else (if b then h else No BadByte)) bytes
+choose : (a b : Bool) (g h : Lexeme) (bytes : List ℕ) → a ≡ false → b ≡ false → Stops BadByte bytes → Reads (if a then g else (if b then h else No BadByte)) bytes
 choose true b g h bytes p q n = cc
 choose false true g h bytes p q n = cc
 choose false false g h bytes p q n = n
 
 slash : (bytes : List ℕ) → Reads (comment (47 ∷ bytes)) (47 ∷ bytes)
-slash [] = none_at Slash 47 [] refl none
+slash [] = (none_at Slash 47 [] refl none, refl, refl)
   where
     none : (j : ℕ) → j ≤ 0 → is_comment (47 ∷ take j []) ≡ false
     none zero l = refl
@@ -147,7 +139,8 @@ slash (c ∷ bytes) = go (nat_eq 47 c) (nat_eq 42 c) refl refl
     go false true e f = subst (λ x. Reads (comment (47 ∷ x ∷ bytes)) (47 ∷ x ∷ bytes)) (eqb-true 42 c f) (block bytes)
     go false false e f =
         choose (starts_with nat_eq (47 ∷ c ∷ bytes) (codes "//")) (starts_with nat_eq (47 ∷ c ∷ bytes) (codes "/*")) (Gap (prefix_len (λ b. not (b == 10)) (47 ∷ c ∷ bytes))) (closed (close_len bytes)) (47 ∷ c ∷ bytes)
-        (left_false (nat_eq 47 c) true e) (left_false (nat_eq 42 c) true f) (none_at Slash 47 (c ∷ bytes) refl (none e f))
+        (left_false (nat_eq 47 c) true e) (left_false (nat_eq 42 c) true f)
+        (none_at Slash 47 (c ∷ bytes) refl (none e f), left_false (nat_eq 42 c) true f, refl)
 
 -- numbers
 pub left_of : (a b : Bool) → (a && b) ≡ true → a ≡ true
@@ -220,18 +213,15 @@ module _ (b : ℕ) (bytes : List ℕ) (is : class_of b ≡ Digit) (digit : is_as
         number = ap is_number_of (front_class (number_len (b ∷ bytes)) numeral.some);
         sound = λ t. ap is_some e;
       }
-      go None e = (
-        number_len (b ∷ bytes),
-        record {
-          some = numeral.some;
-          long = numeral.long;
-          number = ap is_number_of (front_class (number_len (b ∷ bytes)) numeral.some);
-          wide = e;
-        },
-      )
+      go None e = record {
+        len = number_len (b ∷ bytes);
+        longest = numeral.long;
+        number = ap is_number_of (front_class (number_len (b ∷ bytes)) numeral.some);
+        wide = e;
+      }
 
 -- texts
-module _ (b : ℕ) (bytes : List ℕ) (is : class_of b ≡ Quote) where
+module _ (b : ℕ) (bytes : List ℕ) (is : class_of b ≡ Quote) (opens : (b == 34) ≡ true) where
   abbrev inside : ℕ
   inside = prefix_len is_inside_text bytes
 
@@ -252,10 +242,14 @@ module _ (b : ℕ) (bytes : List ℕ) (is : class_of b ≡ Quote) where
       go true e =
           let l = closed_within e in
           read_at Quote b bytes is (inside + 2) (inside + 1) (omega arith) (omega arith) (text_closed bytes l e) (λ j g h. text_other bytes j h (λ q. omega arith)) refl
-      go false e = none_at Quote b bytes is (λ j h. text_open bytes e j h)
+      go false e = (none_at Quote b bytes is (λ j h. text_open bytes e j h), opens)
 
 one_byte : (b : ℕ) (bytes : List ℕ) (j : ℕ) → 0 < j → j ≤ length bytes → (length (b ∷ take j bytes) == 1) ≡ false
 one_byte b bytes j l h = ne_eqb (length (b ∷ take j bytes)) 1 (λ e. omega (arith, e, length-take j bytes))
+
+-- the same test, the other way round
+other_byte : (b c : ℕ) → (b == c) ≡ false → nat_eq c b ≡ false
+other_byte b c e = ne_eqb c b (λ q. let t : (b == c) ≡ true = eq-eqb b c (sym q) in cc)
 
 by_class : (b : ℕ) (bytes : List ℕ) (cls : Class) → class_of b ≡ cls → Facts cls (is_letter b) (is_ascii_digit b) (b == 34) (b == 47) → Reads (lexeme_of cls b bytes) (b ∷ bytes)
 by_class b bytes Blank is f = read_at Blank b bytes is 1 0 refl (omega arith) refl (one_byte b bytes) refl
@@ -263,10 +257,18 @@ by_class b bytes Letter is f =
     read_at Letter b bytes is (1 + prefix_len is_word bytes) (prefix_len is_word bytes) (omega arith) (prefix_len-le-length is_word bytes)
     (both (is_word b) _ (rw f refl) (all_front is_word bytes)) (λ j l h. right_false (is_word b) _ (all_longer is_word bytes j l h)) refl
 by_class b bytes Digit is f = digits b bytes is f
-by_class b bytes Quote is f = quote b bytes is
+by_class b bytes Quote is f = quote b bytes is f
 by_class b bytes Slash is f = subst (λ x. Reads (comment (x ∷ bytes)) (x ∷ bytes)) (sym (eqb-true b 47 f)) (slash bytes)
 by_class b bytes Marking is f = read_at Marking b bytes is 1 0 refl (omega arith) refl (one_byte b bytes) refl
-by_class b bytes Other is f = none_at Other b bytes is (λ j h. refl)
+by_class b bytes Other is f = (none_at Other b bytes is (λ j h. refl), left_false (nat_eq 47 b) _ (other_byte b 47 f.1), f.0)
 
 pub reads : (b : ℕ) (bytes : List ℕ) → Reads (lexeme b bytes) (b ∷ bytes)
 reads b bytes = by_class b bytes (class_of b) refl (class_facts (is_blank b) (is_letter b) (is_ascii_digit b) (b == 34) (b == 47) (is_mark b))
+
+-- a letter begins a lexeme, which is no number
+pub letter_reads : (b : ℕ) (bytes : List ℕ) → is_letter b ≡ true → (n : ℕ) × (k : Option TokenKind) × Read n k false (b ∷ bytes)
+letter_reads b bytes l = go (is_blank b) refl
+  where
+    go : (t : Bool) → is_blank b ≡ t → (n : ℕ) × (k : Option TokenKind) × Read n k false (b ∷ bytes)
+    go true e = (1, None, by_class b bytes Blank (rw e refl) tt)
+    go false e = (1 + prefix_len is_word bytes, Some kinds.Name, by_class b bytes Letter (rw (e, l) refl) l)

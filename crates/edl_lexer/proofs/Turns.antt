@@ -21,9 +21,17 @@ pub with_front-token : (front : List Token) (t : Token) (r : Result (List Token)
 with_front-token front t (Ok ts) = ap (λ z. Ok z) (append_assoc front (t ∷ []) ts)
 with_front-token front t (Err e) = refl
 
-with_front-nothing : (r : Result (List Token) LexFault) → with_front [] r ≡ r
+pub with_front-nothing : (r : Result (List Token) LexFault) → with_front [] r ≡ r
 with_front-nothing (Ok ts) = refl
 with_front-nothing (Err e) = refl
+
+pub with_front-one : (t : Token) (r : Result (List Token) LexFault) → with_front (t ∷ []) r ≡ with_token t r
+with_front-one t (Ok ts) = refl
+with_front-one t (Err e) = refl
+
+pub with_front-front : (one other : List Token) (r : Result (List Token) LexFault) → with_front one (with_front other r) ≡ with_front (one ++ other) r
+with_front-front one other (Ok ts) = ap (λ z. Ok z) (sym (append_assoc one other ts))
+with_front-front one other (Err e) = refl
 
 pub begun : (front : List Token) → front ≡ [] → (f : ℕ → Result (List Token) LexFault) → with_front front (f (65536 - length front)) ≡ f 65536
 begun front e f = subst (λ z. with_front z (f (65536 - length z)) ≡ f 65536) (sym e) (with_front-nothing (f 65536))

@@ -4,7 +4,6 @@ use Rattle.std.proofs.Common.{length-take, length-drop, length-append, arith, �
 use Rattle.std.specs.List.{concat, prefix_len}
 use Rattle.std.proofs.lemmas.Bool.{eqb-true}
 use Rattle.std.proofs.lemmas.List.Elements.{All-nil, All-cons, All-append}
-use Rattle.std.proofs.Math.Seq.{take-append_seam}
 use Rattle.sgx_base.specs.Numbers.{spelled_number}
 use Rattle.edl_lexer.specs.declared.Token.{Token}
 use Rattle.edl_lexer.specs.declared.TokenKind.{TokenKind}
@@ -13,11 +12,12 @@ use Rattle.edl_lexer.specs.declared.place.Place.{Place}
 use Rattle.edl_lexer.specs.declared.scan.Class.{Class}
 use Rattle.edl_lexer.specs.declared.scan.Class.TheVariants.{Blank, Letter, Digit, Quote, Slash, Marking, Other}
 use Rattle.edl_lexer.specs.Bounds.{least_len, LiesIn, LieIn, AreInOrder}
-use Rattle.edl_lexer.specs.Division.{AreTokensOf, first_place, is_lexeme, is_lexeme_of, AreLongest, kind_of, kind_by, tokens_of}
+use Rattle.edl_lexer.specs.Division.{AreTokensOf, first_place, behind_mark, is_lexeme, is_lexeme_of, AreLongest, kind_of, kind_by, tokens_of}
 use Rattle.edl_lexer.specs.Lexemes.{class_of, is_inside_text}
 use Rattle.edl_lexer.specs.Lexing.{opening, mark_len, after, token}
 use Rattle.edl_lexer.proofs.Reading.{left_of}
 use Rattle.edl_lexer.proofs.Turns.{offset-after}
+use Rattle.edl_lexer.proofs.Divided.{front_is, rest_is}
 
 number_by : (r : Option ℕ) → option_map (λ n. kinds.Number n) r ≡ Some kinds.Text → ⊥
 number_by (Some n) e = cc
@@ -48,13 +48,13 @@ module _ (bytes : List ℕ) where
       let first : LiesIn bytes (token kind (length lexeme) at) = (omega (arith, long kind refl), l) in
       All-cons (LiesIn bytes) (token kind (length lexeme) at) [] first (All-nil (LiesIn bytes))
 
-  lie : (lexemes : List (List ℕ)) (at : Place) → AreLongest lexemes → at.offset + length (concat lexemes) ≤ length bytes → All (LiesIn bytes) (tokens_of at lexemes)
-  lie [] at long l = All-nil (LiesIn bytes)
-  lie (lexeme ∷ others) at long l =
+  lie : (lexemes : List (List ℕ)) (at : Place) (left : List ℕ) → concat lexemes ++ [] ≡ left → AreLongest left lexemes → at.offset + length (concat lexemes) ≤ length bytes → All (LiesIn bytes) (tokens_of at lexemes)
+  lie [] at left e long l = All-nil (LiesIn bytes)
+  lie (lexeme ∷ others) at left e long l =
       let whole = length-append lexeme (concat others) in
-      let is_one : is_lexeme lexeme ≡ true = ap is_lexeme (sym (take-append_seam lexeme (concat others))) ∙ long.0.is_one in
+      let is_one : is_lexeme lexeme ≡ true = ap is_lexeme (sym (front_is left lexeme (concat others) [] e)) ∙ long.0.is_one in
       All-append (LiesIn bytes) _ _ (one_lies lexeme at (kind_of lexeme) (λ kind e. long_enough kind lexeme is_one e) (omega (arith, whole, l)))
-      (lie others (after at lexeme) long.1 (omega (arith, whole, l, offset-after lexeme at)))
+      (lie others (after at lexeme) (drop (length lexeme) left) (sym (rest_is left lexeme (concat others) [] e)) long.1 (omega (arith, whole, l, offset-after lexeme at)))
 
 followed : (k : Option TokenKind) (lexeme : List ℕ) (at : Place) (rest : List Token) (n : ℕ) → n ≤ at.offset → ((m : ℕ) → m ≤ at.offset + length lexeme → AreInOrder m rest)
     → AreInOrder n (option_to_list (option_map (λ kind. token kind (length lexeme) at) k) ++ rest)
@@ -69,8 +69,9 @@ follow (lexeme ∷ others) at n l =
 module _ (bytes : List ℕ) (tokens : List Token) (are : AreTokensOf bytes tokens) where
   pub tokens_lie : length tokens ≤ 65536 → LieIn bytes tokens 0
   tokens_lie few = record {
-    inside = subst (All (LiesIn bytes)) (sym are.same) (lie bytes are.lexemes (first_place bytes) are.division.longest (omega (
+    inside = subst (All (LiesIn bytes)) (sym are.same) (lie bytes are.lexemes (first_place bytes) (behind_mark bytes) are.division.joined are.division.longest (omega (
       arith,
+      length-append (concat are.lexemes) [],
       offset-after (take (mark_len bytes) bytes) opening,
       ap length are.division.joined,
       length-take (mark_len bytes) bytes,

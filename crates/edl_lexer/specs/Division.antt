@@ -13,7 +13,8 @@ use Rattle.edl_lexer.specs.Lexing.{after, token, opening, mark_len, max_tokens}
 
 -- what stands behind a text's first quote: bytes inside it, then a quote, and nothing more
 abbrev pub is_text_end : List ℕ → Bool
-is_text_end bytes = length bytes == prefix_len is_inside_text bytes + 1 && slice_index bytes (prefix_len is_inside_text bytes) == 34
+is_text_end bytes =
+    length bytes == prefix_len is_inside_text bytes + 1 && slice_index bytes (prefix_len is_inside_text bytes) == 34
 
 -- whether there is an end, and it is this one
 abbrev pub is_at : ℕ → Option ℕ → Bool
@@ -74,28 +75,34 @@ pub record IsLongest (n : ℕ) (bytes : List ℕ) : Type 0 where
   pub is_one : IsTrue (is_lexeme (take n bytes))
   pub longest : (m : ℕ) → n < m → m ≤ length bytes → IsFalse (is_lexeme (take m bytes))
 
--- each lexeme is the longest at the front of what it and those behind it are
-abbrev pub AreLongest : List (List ℕ) → Type 0
-AreLongest [] = Unit {0}
-AreLongest (lexeme ∷ others) = IsLongest (length lexeme) (lexeme ++ concat others) × AreLongest others
+-- each lexeme is the longest at the front of what is left of the bytes
+abbrev pub AreLongest : List ℕ → List (List ℕ) → Type 0
+AreLongest bytes [] = Unit {0}
+AreLongest bytes (lexeme ∷ others) = IsLongest (length lexeme) bytes × AreLongest (drop (length lexeme) bytes) others
 
 -- each number has at most 64 bits, and no letter stands right behind it
 abbrev pub AreNumbersSound : List (List ℕ) → Type 0
 AreNumbersSound [] = Unit {0}
 AreNumbersSound (lexeme ∷ others) =
-    (IsTrue (is_number lexeme) → IsSome (spelled_number lexeme) × IsFalse (is_letter (slice_index (concat others) 0))) × AreNumbersSound others
+    (IsTrue (is_number lexeme) → IsSome (spelled_number lexeme) × IsFalse (is_letter (slice_index (concat others) 0)))
+    × AreNumbersSound others
+
+-- the bytes begin with these lexemes, divided longest first, and the rest stands behind them
+pub record BeginsWith (bytes : List ℕ) (lexemes : List (List ℕ)) (rest : List ℕ) : Type 0 where
+  pub joined : concat lexemes ++ rest ≡ bytes
+  pub longest : AreLongest bytes lexemes
+  pub numbers : AreNumbersSound lexemes
 
 -- the lexemes are the bytes, divided longest first
-pub record IsDivision (bytes : List ℕ) (lexemes : List (List ℕ)) : Type 0 where
-  pub joined : concat lexemes ≡ bytes
-  pub longest : AreLongest lexemes
-  pub numbers : AreNumbersSound lexemes
+abbrev pub IsDivision : List ℕ → List (List ℕ) → Type 0
+IsDivision bytes lexemes = BeginsWith bytes lexemes []
 
 -- the tokens among lexemes, the first of which stands at this place
 abbrev pub tokens_of : Place → List (List ℕ) → List Token
 tokens_of at [] = []
 tokens_of at (lexeme ∷ others) =
-    option_to_list (option_map (λ kind. token kind (length lexeme) at) (kind_of lexeme)) ++ tokens_of (after at lexeme) others
+    option_to_list (option_map (λ kind. token kind (length lexeme) at) (kind_of lexeme))
+    ++ tokens_of (after at lexeme) others
 
 -- the bytes behind the byte order mark, if any
 abbrev pub behind_mark : List ℕ → List ℕ
@@ -113,8 +120,10 @@ pub record AreTokensOf (bytes : List ℕ) (tokens : List Token) : Type 0 where
 
 -- no division of the file has as few tokens as are allowed
 abbrev pub HasNoTokens : List ℕ → Type 0
-HasNoTokens bytes = (lexemes : List (List ℕ)) → IsDivision (behind_mark bytes) lexemes → max_tokens < length (tokens_of (first_place bytes) lexemes)
+HasNoTokens bytes = (lexemes : List (List ℕ)) → IsDivision (behind_mark bytes) lexemes
+    → max_tokens < length (tokens_of (first_place bytes) lexemes)
 
 -- a text has one division
 abbrev pub DivisionIsUnique : Type 0
-DivisionIsUnique = (bytes : List ℕ) (one other : List (List ℕ)) → IsDivision bytes one → IsDivision bytes other → one ≡ other
+DivisionIsUnique = (bytes : List ℕ) (one other : List (List ℕ))
+    → IsDivision bytes one → IsDivision bytes other → one ≡ other

@@ -1,4 +1,5 @@
 pub mod Bounds
 pub mod Division
+pub mod FirstFault
 pub mod Lexemes
 pub mod Lexing

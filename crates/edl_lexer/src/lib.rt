@@ -1,10 +1,11 @@
 //! The tokens of an interface file, each with its place, or the file's first lexical fault.
 #![tactic(auto)]
 
-ghost use Rattle.std.specs.Prelude.{◌≡◌, ◌≤◌, ◌⊎◌, length, IfOk, IfErr, Ok, Err};
+ghost use Rattle.std.specs.Prelude.{◌≡◌, ◌≤◌, length, IfOk, IfErr, Ok};
 ghost use Rattle.sgx_base.specs.Stores.{max_file_size};
 ghost use Rattle.edl_lexer.specs.Bounds.{LieIn, AreInOrder};
 ghost use Rattle.edl_lexer.specs.Division.{AreTokensOf, HasNoTokens, DivisionIsUnique};
+ghost use Rattle.edl_lexer.specs.FirstFault.{HasLexFault, FaultIsUnique, OrMemory};
 ghost use Rattle.edl_lexer.specs.Lexing as spec;
 ghost use Rattle.edl_lexer.specs.declared.LexFault.TheVariants.{Memory};
 
@@ -98,11 +99,11 @@ fn is_number(kind: TokenKind) -> bool
 pub fn lex(alloc: Global, file: u32, bytes: &[u8]) -> Result<Vec<Token>, LexFault>
     requires { length bytes.now ≤ max_file_size }
     ensures tokens { IfOk result (λ tokens. spec.lexing file bytes.now ≡ Ok tokens.items) }
-    ensures fault { IfErr result (λ fault. (fault ≡ Memory) ⊎ (spec.lexing file bytes.now ≡ Err fault)) }
+    ensures fault { IfErr result (OrMemory Memory (HasLexFault file bytes.now)) }
     ensures divided { IfOk result (λ tokens. AreTokensOf bytes.now tokens.items) }
     ensures within { IfOk result (λ tokens. LieIn bytes.now tokens.items 0) }
     ensures in_order { IfOk result (λ tokens. AreInOrder 0 tokens.items) }
-    ensures refused { IfErr result (λ fault. (fault ≡ Memory) ⊎ HasNoTokens bytes.now) }
+    ensures refused { IfErr result (OrMemory Memory (λ _. HasNoTokens bytes.now)) }
 {
     let mut tokens = Vec::new(alloc);
     let mut at = start(bytes);
@@ -134,7 +135,8 @@ pub fn lex(alloc: Global, file: u32, bytes: &[u8]) -> Result<Vec<Token>, LexFaul
     Ok(tokens)
 }
 
-/// A text is divided in one way alone, longest first.
+/// A text is divided in one way alone, longest first, and has one first fault.
 pub fn division_is_unique()
-    ensures { DivisionIsUnique }
+    ensures division { DivisionIsUnique }
+    ensures fault { FaultIsUnique }
 {}

@@ -24,11 +24,8 @@ pub fn start(bytes: &[u8]) -> Place
         line: 1,
         column: 1,
     };
-    if has_mark(bytes) {
-        advance(opening, &bytes[..3])
-    } else {
-        opening
-    }
+    let mark_len = if has_mark(bytes) { 3 } else { 0 };
+    advance(opening, &bytes[..mark_len])
 }
 
 fn has_mark(bytes: &[u8]) -> bool

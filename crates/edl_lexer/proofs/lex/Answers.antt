@@ -1,9 +1,8 @@
-use Rattle.std.proofs.Common.{arith, ◌≡◌, ◌+◌, ◌-◌, ◌<◌, suc, length, length-drop, length-take, length-append, drop, sym, ◌∙◌, ap, subst, false, refl, ◌∷◌, [], ◌++◌, inr}
+use Rattle.std.proofs.Common.{arith, ◌≡◌, ◌+◌, ◌-◌, ◌<◌, suc, length, length-drop, length-take, length-append, drop, sym, ◌∙◌, ap, subst, false, refl, ◌∷◌, [], ◌++◌, inr, Err}
 use Rattle.edl_lexer.specs.Lexing as lexing
 use Rattle.edl_lexer.proofs.Turns.{with_front, with_front-token, begun, skip, Turned, turned, gap_at, piece_at, flawed_at, full_at, at_end}
-use Rattle.edl_lexer.proofs.Divided.{tokens_divided, refused}
+use Rattle.edl_lexer.proofs.Divided.{tokens_divided, fault_found, no_tokens}
 use Rattle.edl_lexer.proofs.Within.{tokens_lie, tokens_follow}
-use Rattle.edl_lexer.specs.declared.scan.Flaw.TheVariants.{TooManyTokens}
 use Rattle.edl_lexer.proofs.lex.Goals as goal
 
 pub loop-at-init : goal.loop-at-init
@@ -62,16 +61,22 @@ loop-at-preserved c =
       column = omega (arith, t.column, t.offset, c.loop-at.invariant.column);
     }
 
-pub returns-in-No-clause-refused : goal.returns-in-No-clause-refused
-returns-in-No-clause-refused c =
+pub returns-in-No-clause-fault : goal.returns-in-No-clause-fault
+returns-in-No-clause-fault c =
     let stopped = flawed_at c.args.bytes.now c.loop-at.at c.loop-at-test.true c.args.file c.loop-at.after_number (65536 - length c.loop-at.tokens.items) c.in-No.flaw c.in-No.ensures.value in
-    inr (refused c.args.file c.args.bytes.now (lexing.fault_of c.args.file c.loop-at.at c.in-No.flaw) (sym c.loop-at.invariant.rest ∙ ap (with_front c.loop-at.tokens.items) stopped))
+    inr (fault_found c.args.file c.args.bytes.now c.fault_of-in-No.result (sym c.loop-at.invariant.rest ∙ ap (with_front c.loop-at.tokens.items) stopped ∙ ap (λ z. Err z) (sym c.fault_of-in-No.ensures)))
 
-pub returns-then-len-eq-MAX_TOKENS-clause-refused : goal.returns-then-len-eq-MAX_TOKENS-clause-refused
-returns-then-len-eq-MAX_TOKENS-clause-refused c =
+pub returns-in-No-clause-refused : goal.returns-in-No-clause-refused
+returns-in-No-clause-refused c = no_tokens c.args.file c.args.bytes.now c.fault_of-in-No.result (returns-in-No-clause-fault c)
+
+pub returns-then-len-eq-MAX_TOKENS-clause-fault : goal.returns-then-len-eq-MAX_TOKENS-clause-fault
+returns-then-len-eq-MAX_TOKENS-clause-fault c =
     let none : 65536 - length c.loop-at.tokens.items ≡ 0 = omega (arith, c.if-len-eq-MAX_TOKENS.true, c.len.ensures, c.loop-at.tokens.ok.0) in
     let stopped = full_at c.args.bytes.now c.loop-at.at c.loop-at-test.true c.args.file c.loop-at.after_number (65536 - length c.loop-at.tokens.items) c.in-Piece.len c.in-Piece.kind none c.in-Piece.ensures.value in
-    inr (refused c.args.file c.args.bytes.now (lexing.fault_of c.args.file c.loop-at.at TooManyTokens) (sym c.loop-at.invariant.rest ∙ ap (with_front c.loop-at.tokens.items) stopped))
+    inr (fault_found c.args.file c.args.bytes.now c.fault_of.result (sym c.loop-at.invariant.rest ∙ ap (with_front c.loop-at.tokens.items) stopped ∙ ap (λ z. Err z) (sym c.fault_of.ensures)))
+
+pub returns-then-len-eq-MAX_TOKENS-clause-refused : goal.returns-then-len-eq-MAX_TOKENS-clause-refused
+returns-then-len-eq-MAX_TOKENS-clause-refused c = no_tokens c.args.file c.args.bytes.now c.fault_of.result (returns-then-len-eq-MAX_TOKENS-clause-fault c)
 
 pub returns-clause-divided : goal.returns-clause-divided
 returns-clause-divided c =
