@@ -1,12 +1,13 @@
 -- The loops of the parser: the stars of a type, and items that are joined into one file.
-use Rattle.std.proofs.Common.{arith, append_assoc, append-nil, ◌≡◌, ◌+◌, ℕ, suc, Bool, true, false, List, [], ◌∷◌, length, refl, sym, ◌∙◌, ap, Option, Some, None, Ok, Err}
+use Rattle.std.proofs.Common.{arith, append_assoc, ◌≡◌, ◌+◌, ℕ, suc, Bool, true, List, [], ◌∷◌, length, refl, sym, ◌∙◌, ap, Option, Some, None, Ok, Err, ◌<◌}
 use Rattle.edl_grammar.specs.declared.EdlFile.{EdlFile}
 use Rattle.edl_grammar.specs.Symbols.{Symbol, Lexed}
-use Rattle.edl_grammar.specs.Grammar.{nothing, both, all_of}
+use Rattle.edl_grammar.specs.Grammar.{both, all_of}
 use Rattle.edl_grammar.specs.Parser.{Parser, Outcome, and_then, sees, with_front, is_mark}
 use Rattle.edl_grammar.specs.Parser as parse
-use Rattle.edl_grammar.proofs.Agrees.{ok_left}
-use Rattle.edl_grammar.proofs.Many.{Shrinks, many_turn, many_done, many_stops}
+use Rattle.edl_grammar.proofs.Agrees.{ok_left, ok_value}
+use Rattle.edl_parser.specs.Reads.{behind}
+use Rattle.edl_grammar.proofs.Many.{Shrinks, many_turn}
 
 -- ---- items
 
@@ -24,19 +25,6 @@ both_assoc f g h = λ i. record {
   untrusted = sym (append_assoc f.untrusted g.untrusted h.untrusted) i;
 }
 
-pub both_nothing : (f : EdlFile) → both f nothing ≡ f
-both_nothing f = λ i. record {
-  includes = append-nil f.includes i;
-  imports = append-nil f.imports i;
-  types = append-nil f.types i;
-  trusted = append-nil f.trusted i;
-  untrusted = append-nil f.untrusted i;
-}
-
-pub file_start : (r : Outcome (List EdlFile)) → with_file nothing r ≡ and_then r (λ fs. parse.pure (all_of fs))
-file_start (Ok p) = refl
-file_start (Err r) = refl
-
 file_front : (f g : EdlFile) (r : Outcome (List EdlFile)) → with_file f (with_front (g ∷ []) r) ≡ with_file (both f g) r
 file_front f g (Ok p) = ap (λ (h : EdlFile). Ok (h, p.1)) (both_assoc f g (all_of p.0))
 file_front f g (Err r) = refl
@@ -48,13 +36,28 @@ module _ (test : Symbol → Bool) (p : Parser EdlFile) where
   turn_file shrinks f g ss rest whole t e h =
       sym (file_front f g (parse.many test p rest)) ∙ ap (λ r. with_file f r) (sym (many_turn test p shrinks ss rest g t e)) ∙ h
 
-  -- no more items
-  pub file_end : (f : EdlFile) (ss : List Lexed) (whole : Outcome EdlFile) → sees test ss ≡ false → with_file f (parse.many test p ss) ≡ whole → whole ≡ Ok (f, ss)
-  file_end f ss whole t h = sym h ∙ ap (λ r. with_file f r) (many_done test p ss t) ∙ ap (λ (g : EdlFile). Ok (g, ss)) (both_nothing f)
+-- ---- items that go to the ends of a file
 
-  -- an item that cannot be read
-  pub file_stops : (f : EdlFile) (ss rest : List Lexed) (whole : Outcome EdlFile) → sees test ss ≡ true → p ss ≡ Err rest → with_file f (parse.many test p ss) ≡ whole → whole ≡ Err rest
-  file_stops f ss rest whole t e h = sym h ∙ ap (λ r. with_file f r) (many_stops test p ss rest t e)
+-- an item that was read, and the file with it
+record Added (f new : EdlFile) (outcome : Outcome EdlFile) (rest : List Lexed) : Type 0 where
+  item : EdlFile
+  reads : outcome ≡ Ok (item, rest)
+  joined : both f item ≡ new
+
+added : (f new : EdlFile) (outcome : Outcome EdlFile) (rest : List Lexed) → behind f outcome ≡ Ok (new, rest) → Added f new outcome rest
+added f new (Ok (g, r)) rest e =
+    record { item = g; reads = ap (λ (z : List Lexed). Ok (g, z)) (ok_left e); joined = ok_value e }
+added f new (Err r) rest e = absurd cc
+
+module _ (test : Symbol → Bool) (p : Parser EdlFile) where
+  pub item_turn : Shrinks test p → (f new : EdlFile) (ss rest : List Lexed) (whole : Outcome EdlFile) → sees test ss ≡ true → behind f (p ss) ≡ Ok (new, rest)
+      → with_file f (parse.many test p ss) ≡ whole → with_file new (parse.many test p rest) ≡ whole
+  item_turn shrinks f new ss rest whole t e h =
+      let a = added f new (p ss) rest e in
+      ap (λ (g : EdlFile). with_file g (parse.many test p rest)) (sym a.joined) ∙ turn_file test p shrinks f a.item ss rest whole t a.reads h
+
+  pub item_shorter : Shrinks test p → (f new : EdlFile) (ss rest : List Lexed) → behind f (p ss) ≡ Ok (new, rest) → length rest < length ss
+  item_shorter shrinks f new ss rest e = let a = added f new (p ss) rest e in shrinks ss rest a.item a.reads
 
 -- ---- stars
 

@@ -18,7 +18,13 @@ fn declaration(
     dims: Items<Option<u64>>,
     attrs: Items<Attribute>,
 ) -> Declared
-    ensures { result ≡ record { token = found.token; name = found.name; written = written; dims = dims; attrs = attrs } }
+    ensures { result ≡ record {
+      token = found.token;
+      name = found.name;
+      written = written;
+      dims = dims;
+      attrs = attrs;
+    } }
 {
     Declared {
         token: found.token,

@@ -1,8 +1,8 @@
 //! Declarations with too many stars or dimensions.
 
-ghost use Rattle.std.specs.Prelude.{◌≡◌, [], ◌∷◌, nat_lt, map, filter};
+ghost use Rattle.std.specs.Prelude.{◌≡◌, [], ◌∷◌};
 ghost use Rattle.std.specs.List.{flat_map};
-ghost use Rattle.edl_parser.specs.Depth.{earlier};
+ghost use Rattle.edl_parser.specs.Depth.{earlier, deep_result};
 ghost use Rattle.edl_grammar.specs.Sentence as sentence;
 
 use edl_grammar::{Declared, EdlFile, FuncDecl, TypeDecl};
@@ -71,7 +71,7 @@ fn deep_in_types(decls: &[TypeDecl]) -> Option<u32>
 
 /// The function's name, where its result has too many stars.
 fn deep_result(function: &FuncDecl) -> Option<u32>
-    ensures { result ≡ sentence.least (map (λ f. f.token) (filter (λ f. nat_lt sentence.max_depth f.result.stars) (function.now ∷ []))) }
+    ensures { result ≡ deep_result function.now }
 {
     if function.result.stars as usize > MAX_DEPTH {
         Some(function.token)

@@ -1,9 +1,9 @@
-//! Items and blocks, each read as a file that holds it alone.
+//! Items and blocks, which go to the ends of a file.
 
-ghost use Rattle.std.specs.Prelude.{◌≡◌, IfOk, OnOk};
+ghost use Rattle.std.specs.Prelude.{◌≡◌, OnOk};
 ghost use Rattle.edl_grammar.specs.Grammar as grammar;
 ghost use Rattle.edl_grammar.specs.Parser as parser;
-ghost use Rattle.edl_parser.specs.Reads.{Reads};
+ghost use Rattle.edl_parser.specs.Reads.{Reads, Adds};
 
 use crate::cursor::{Cursor, Stop};
 use crate::functions::function;
@@ -23,66 +23,49 @@ fn nothing(alloc: Global) -> EdlFile
     }
 }
 
-/// Moves the items of another file to the ends.
-fn append(file: &mut EdlFile, other: EdlFile) -> Result<(), AllocError>
-    ensures { OnOk result (file.new ≡ grammar.both file.old other) }
+fn add_include(file: &mut EdlFile, include: Include) -> Result<(), AllocError>
+    ensures { OnOk result (file.new ≡ grammar.both file.old (grammar.include_item include)) }
 {
-    file.includes.append(other.includes)?;
-    file.imports.append(other.imports)?;
-    file.types.append(other.types)?;
-    file.trusted.append(other.trusted)?;
-    file.untrusted.append(other.untrusted)?;
-    Ok(())
+    file.includes.push(include)
 }
 
-fn include_item(alloc: Global, include: Include) -> Result<EdlFile, AllocError>
-    ensures { IfOk result (λ file. file ≡ grammar.include_item include) }
+fn add_import(file: &mut EdlFile, import: Import) -> Result<(), AllocError>
+    ensures { OnOk result (file.new ≡ grammar.both file.old (grammar.import_item import)) }
 {
-    let mut file = nothing(alloc);
-    file.includes.push(include)?;
-    Ok(file)
+    file.imports.push(import)
 }
 
-fn import_item(alloc: Global, import: Import) -> Result<EdlFile, AllocError>
-    ensures { IfOk result (λ file. file ≡ grammar.import_item import) }
+fn add_type(file: &mut EdlFile, decl: TypeDecl) -> Result<(), AllocError>
+    ensures { OnOk result (file.new ≡ grammar.both file.old (grammar.type_as_item decl)) }
 {
-    let mut file = nothing(alloc);
-    file.imports.push(import)?;
-    Ok(file)
+    file.types.push(decl)
 }
 
-fn type_item(alloc: Global, decl: TypeDecl) -> Result<EdlFile, AllocError>
-    ensures { IfOk result (λ file. file ≡ grammar.type_as_item decl) }
+fn add_trusted(file: &mut EdlFile, decl: FuncDecl) -> Result<(), AllocError>
+    ensures { OnOk result (file.new ≡ grammar.both file.old (grammar.trusted_as_item decl)) }
 {
-    let mut file = nothing(alloc);
-    file.types.push(decl)?;
-    Ok(file)
+    file.trusted.push(decl)
 }
 
-fn trusted_as_item(alloc: Global, decl: FuncDecl) -> Result<EdlFile, AllocError>
-    ensures { IfOk result (λ file. file ≡ grammar.trusted_as_item decl) }
+fn add_untrusted(file: &mut EdlFile, decl: FuncDecl) -> Result<(), AllocError>
+    ensures { OnOk result (file.new ≡ grammar.both file.old (grammar.untrusted_as_item decl)) }
 {
-    let mut file = nothing(alloc);
-    file.trusted.push(decl)?;
-    Ok(file)
-}
-
-fn untrusted_as_item(alloc: Global, decl: FuncDecl) -> Result<EdlFile, AllocError>
-    ensures { IfOk result (λ file. file ≡ grammar.untrusted_as_item decl) }
-{
-    let mut file = nothing(alloc);
-    file.untrusted.push(decl)?;
-    Ok(file)
+    file.untrusted.push(decl)
 }
 
 impl Cursor<'_> {
-    fn include(&mut self, alloc: Global, place: IncludePlace) -> Result<EdlFile, Stop>
-        ensures { Reads (parser.include place self.old) result self.new }
+    fn include(
+        &mut self,
+        alloc: Global,
+        place: IncludePlace,
+        file: &mut EdlFile,
+    ) -> Result<(), Stop>
+        ensures { Adds (parser.include place self.old) result file.old file.new self.new }
     {
         self.take_word(b"include")?;
         let NameAt { token, name: text } = self.take_text(alloc)?;
-        let file = include_item(alloc, Include { token, text, place })?;
-        Ok(file)
+        add_include(file, Include { token, text, place })?;
+        Ok(())
     }
 
     /// `*`, which is None, or names.
@@ -98,44 +81,44 @@ impl Cursor<'_> {
         }
     }
 
-    fn import(&mut self, alloc: Global) -> Result<EdlFile, Stop>
-        ensures { Reads (parser.«import» self.old) result self.new }
+    fn import(&mut self, alloc: Global, file: &mut EdlFile) -> Result<(), Stop>
+        ensures { Adds (parser.«import» self.old) result file.old file.new self.new }
     {
         self.take_word(b"from")?;
         let NameAt { token, name: text } = self.take_text(alloc)?;
         self.take_word(b"import")?;
         let names = self.import_names(alloc)?;
         let import = self.then_mark(Import { token, text, names }, b';')?;
-        let file = import_item(alloc, import)?;
-        Ok(file)
+        add_import(file, import)?;
+        Ok(())
     }
 
-    fn enumeration_item(&mut self, alloc: Global) -> Result<EdlFile, Stop>
-        ensures { Reads (parser.type_item parser.enumeration self.old) result self.new }
+    fn enumeration_item(&mut self, alloc: Global, file: &mut EdlFile) -> Result<(), Stop>
+        ensures { Adds (parser.type_item parser.enumeration self.old) result file.old file.new self.new }
     {
         let decl = self.enumeration(alloc)?;
-        let file = type_item(alloc, decl)?;
-        Ok(file)
+        add_type(file, decl)?;
+        Ok(())
     }
 
-    fn structure_item(&mut self, alloc: Global) -> Result<EdlFile, Stop>
-        ensures { Reads (parser.type_item parser.structure self.old) result self.new }
+    fn structure_item(&mut self, alloc: Global, file: &mut EdlFile) -> Result<(), Stop>
+        ensures { Adds (parser.type_item parser.structure self.old) result file.old file.new self.new }
     {
         let decl = self.structure(alloc)?;
-        let file = type_item(alloc, decl)?;
-        Ok(file)
+        add_type(file, decl)?;
+        Ok(())
     }
 
-    fn union_item(&mut self, alloc: Global) -> Result<EdlFile, Stop>
-        ensures { Reads (parser.type_item parser.union self.old) result self.new }
+    fn union_item(&mut self, alloc: Global, file: &mut EdlFile) -> Result<(), Stop>
+        ensures { Adds (parser.type_item parser.union self.old) result file.old file.new self.new }
     {
         let decl = self.union(alloc)?;
-        let file = type_item(alloc, decl)?;
-        Ok(file)
+        add_type(file, decl)?;
+        Ok(())
     }
 
-    fn trusted_function(&mut self, alloc: Global) -> Result<EdlFile, Stop>
-        ensures { Reads (parser.trusted_function self.old) result self.new }
+    fn trusted_function(&mut self, alloc: Global, file: &mut EdlFile) -> Result<(), Stop>
+        ensures { Adds (parser.trusted_function self.old) result file.old file.new self.new }
     {
         let is_public = self.given_word(b"public")?;
         let head = self.func(alloc)?;
@@ -145,8 +128,8 @@ impl Cursor<'_> {
             switchless,
         };
         let decl = self.then_mark(function(head, is_public, tail), b';')?;
-        let file = trusted_as_item(alloc, decl)?;
-        Ok(file)
+        add_trusted(file, decl)?;
+        Ok(())
     }
 
     /// `[cdecl]`, which changes nothing.
@@ -169,36 +152,36 @@ impl Cursor<'_> {
         }
     }
 
-    fn untrusted_function(&mut self, alloc: Global) -> Result<EdlFile, Stop>
-        ensures { Reads (parser.untrusted_function self.old) result self.new }
+    fn untrusted_function(&mut self, alloc: Global, file: &mut EdlFile) -> Result<(), Stop>
+        ensures { Adds (parser.untrusted_function self.old) result file.old file.new self.new }
     {
         self.given_convention()?;
         let head = self.func(alloc)?;
         let tail = self.tail(alloc)?;
         let decl = self.then_mark(function(head, false, tail), b';')?;
-        let file = untrusted_as_item(alloc, decl)?;
-        Ok(file)
+        add_untrusted(file, decl)?;
+        Ok(())
     }
 
     #[tactic(auto, unfolding(edl_grammar::specs::Parser::trusted_item))]
-    fn trusted_item(&mut self, alloc: Global) -> Result<EdlFile, Stop>
-        ensures { Reads (parser.trusted_item self.old) result self.new }
+    fn trusted_item(&mut self, alloc: Global, file: &mut EdlFile) -> Result<(), Stop>
+        ensures { Adds (parser.trusted_item self.old) result file.old file.new self.new }
     {
         if self.sees_word(b"include") {
-            self.include(alloc, IncludePlace::Trusted)
+            self.include(alloc, IncludePlace::Trusted, file)
         } else {
-            self.trusted_function(alloc)
+            self.trusted_function(alloc, file)
         }
     }
 
     #[tactic(auto, unfolding(edl_grammar::specs::Parser::untrusted_item))]
-    fn untrusted_item(&mut self, alloc: Global) -> Result<EdlFile, Stop>
-        ensures { Reads (parser.untrusted_item self.old) result self.new }
+    fn untrusted_item(&mut self, alloc: Global, file: &mut EdlFile) -> Result<(), Stop>
+        ensures { Adds (parser.untrusted_item self.old) result file.old file.new self.new }
     {
         if self.sees_word(b"include") {
-            self.include(alloc, IncludePlace::Untrusted)
+            self.include(alloc, IncludePlace::Untrusted, file)
         } else {
-            self.untrusted_function(alloc)
+            self.untrusted_function(alloc, file)
         }
     }
 
@@ -229,92 +212,90 @@ impl Cursor<'_> {
             || self.sees_word(b"untrusted")
     }
 
-    fn trusted_items(&mut self, alloc: Global) -> Result<EdlFile, Stop>
-        ensures { Reads (parser.items parser.begins_trusted parser.trusted_item self.old) result self.new }
+    fn trusted_items(&mut self, alloc: Global, file: &mut EdlFile) -> Result<(), Stop>
+        ensures { Adds (parser.items parser.begins_trusted parser.trusted_item self.old)
+            result file.old file.new self.new }
     {
-        let mut file = nothing(alloc);
         while self.sees_trusted_item() {
-            let item = self.trusted_item(alloc)?;
-            append(&mut file, item)?;
+            self.trusted_item(alloc, file)?;
         }
-        Ok(file)
+        Ok(())
     }
 
-    fn untrusted_items(&mut self, alloc: Global) -> Result<EdlFile, Stop>
-        ensures { Reads (parser.items parser.begins_untrusted parser.untrusted_item self.old) result self.new }
+    fn untrusted_items(&mut self, alloc: Global, file: &mut EdlFile) -> Result<(), Stop>
+        ensures { Adds (parser.items parser.begins_untrusted parser.untrusted_item self.old)
+            result file.old file.new self.new }
     {
-        let mut file = nothing(alloc);
         while self.sees_untrusted_item() {
-            let item = self.untrusted_item(alloc)?;
-            append(&mut file, item)?;
+            self.untrusted_item(alloc, file)?;
         }
-        Ok(file)
+        Ok(())
     }
 
-    fn trusted_block(&mut self, alloc: Global) -> Result<EdlFile, Stop>
-        ensures { Reads (parser.block "trusted" parser.begins_trusted parser.trusted_item self.old) result self.new }
+    fn trusted_block(&mut self, alloc: Global, file: &mut EdlFile) -> Result<(), Stop>
+        ensures { Adds (parser.block "trusted" parser.begins_trusted parser.trusted_item self.old)
+            result file.old file.new self.new }
     {
         self.take_word(b"trusted")?;
         self.take_mark(b'{')?;
-        let file = self.trusted_items(alloc)?;
-        self.closed(file)
+        self.trusted_items(alloc, file)?;
+        self.closed(())
     }
 
-    fn untrusted_block(&mut self, alloc: Global) -> Result<EdlFile, Stop>
-        ensures { Reads (parser.block "untrusted" parser.begins_untrusted parser.untrusted_item self.old) result self.new }
+    fn untrusted_block(&mut self, alloc: Global, file: &mut EdlFile) -> Result<(), Stop>
+        ensures { Adds (parser.block "untrusted" parser.begins_untrusted parser.untrusted_item self.old)
+            result file.old file.new self.new }
     {
         self.take_word(b"untrusted")?;
         self.take_mark(b'{')?;
-        let file = self.untrusted_items(alloc)?;
-        self.closed(file)
+        self.untrusted_items(alloc, file)?;
+        self.closed(())
     }
 
-    fn block_item(&mut self, alloc: Global) -> Result<EdlFile, Stop>
-        ensures { Reads (parser.block_item self.old) result self.new }
+    fn block_item(&mut self, alloc: Global, file: &mut EdlFile) -> Result<(), Stop>
+        ensures { Adds (parser.block_item self.old) result file.old file.new self.new }
     {
         if self.sees_word(b"trusted") {
-            self.trusted_block(alloc)
+            self.trusted_block(alloc, file)
         } else {
-            self.untrusted_block(alloc)
+            self.untrusted_block(alloc, file)
         }
     }
 
-    fn declaring_item(&mut self, alloc: Global) -> Result<EdlFile, Stop>
-        ensures { Reads (parser.declaring_item self.old) result self.new }
+    fn declaring_item(&mut self, alloc: Global, file: &mut EdlFile) -> Result<(), Stop>
+        ensures { Adds (parser.declaring_item self.old) result file.old file.new self.new }
     {
         if self.sees_word(b"enum") {
-            self.enumeration_item(alloc)
+            self.enumeration_item(alloc, file)
         } else if self.sees_word(b"struct") {
-            self.structure_item(alloc)
+            self.structure_item(alloc, file)
         } else if self.sees_word(b"union") {
-            self.union_item(alloc)
+            self.union_item(alloc, file)
         } else {
-            self.block_item(alloc)
+            self.block_item(alloc, file)
         }
     }
 
     #[tactic(auto, unfolding(edl_grammar::specs::Parser::item))]
-    fn item(&mut self, alloc: Global) -> Result<EdlFile, Stop>
-        ensures { Reads (parser.item self.old) result self.new }
+    fn item(&mut self, alloc: Global, file: &mut EdlFile) -> Result<(), Stop>
+        ensures { Adds (parser.item self.old) result file.old file.new self.new }
     {
         if self.sees_word(b"include") {
-            self.include(alloc, IncludePlace::Outside)
+            self.include(alloc, IncludePlace::Outside, file)
         } else if self.sees_word(b"from") {
-            self.import(alloc)
+            self.import(alloc, file)
         } else {
-            self.declaring_item(alloc)
+            self.declaring_item(alloc, file)
         }
     }
 
-    fn items(&mut self, alloc: Global) -> Result<EdlFile, Stop>
-        ensures { Reads (parser.items parser.begins_item parser.item self.old) result self.new }
+    fn items(&mut self, alloc: Global, file: &mut EdlFile) -> Result<(), Stop>
+        ensures { Adds (parser.items parser.begins_item parser.item self.old) result file.old file.new self.new }
     {
-        let mut file = nothing(alloc);
         while self.sees_item() {
-            let item = self.item(alloc)?;
-            append(&mut file, item)?;
+            self.item(alloc, file)?;
         }
-        Ok(file)
+        Ok(())
     }
 
     /// A file whole.
@@ -323,7 +304,8 @@ impl Cursor<'_> {
     {
         self.take_word(b"enclave")?;
         self.take_mark(b'{')?;
-        let file = self.items(alloc)?;
+        let mut file = nothing(alloc);
+        self.items(alloc, &mut file)?;
         self.closed(file)
     }
 }

@@ -33,7 +33,8 @@ use std::alloc::Global;
 fn unexpected(file: u32, bytes: &[u8], tokens: &[Token], left: usize) -> ParseFault
     requires small { length bytes.now ≤ max_file_size }
     requires few { length tokens.now < 2 ^ 32 }
-    ensures { result ≡ ParseFault.Expected (length tokens.now - left) (fault_of file bytes.now tokens.now (length tokens.now - left) 6) }
+    ensures { let token = length tokens.now - left in
+        result ≡ ParseFault.Expected token (fault_of file bytes.now tokens.now token 6) }
 {
     let token = tokens.len().saturating_sub(left);
     ParseFault::Expected {
@@ -93,7 +94,7 @@ pub fn parse(
     requires inside { LieIn bytes.now tokens.now 0 }
     requires small { length bytes.now ≤ max_file_size }
 
-    // What the grammar says of them: the one tree, the first unexpected token, or the first declaration that is too deep.
+    // What the grammar says: the one tree, the first unexpected token, or the first declaration that is too deep.
     ensures meaning { Parses file bytes.now tokens.now result }
     ensures exact { Gives (λ e. e ≡ ParseFault.Memory) result (parsing file bytes.now tokens.now) }
 {

@@ -122,7 +122,8 @@ impl Cursor<'_> {
 
     /// Takes the word, if it comes next.
     fn maybe_said(&mut self, alloc: Global, word: &[u8]) -> Result<Option<Phrase>, Stop>
-        ensures { Reads (parser.optional (parser.is_spelled word.now) (parser.said_as word.now) self.old) result self.new }
+        ensures { Reads (parser.optional (parser.is_spelled word.now) (parser.said_as word.now) self.old)
+            result self.new }
     {
         if self.sees_word(word) {
             let phrase = self.said(alloc, word)?;

@@ -4,6 +4,7 @@ ghost use Rattle.std.specs.Prelude.{◌≡◌, ◌+◌, ◌<◌, ◌≤◌, ◌^
 ghost use Rattle.sgx_base.specs.Stores.{max_file_size};
 ghost use Rattle.edl_lexer.specs.Lexing as lexing;
 ghost use Rattle.edl_grammar.specs.Sentence as sentence;
+ghost use Rattle.edl_parser.specs.Spots.{place_at};
 
 use edl_lexer::Token;
 use sgx_base::Fault;
@@ -19,7 +20,7 @@ struct Spot {
 fn next(at: Spot, byte: u8) -> Spot
     requires line { at.line + 1 < 2 ^ 32 }
     requires column { at.column + 1 < 2 ^ 32 }
-    ensures place { (n : ℕ) → lexing.step (record { offset = n; line = at.line; column = at.column }) byte ≡ record { offset = n + 1; line = result.line; column = result.column } }
+    ensures place { (n : ℕ) → lexing.step (place_at n at) byte ≡ place_at (n + 1) result }
     ensures line { result.line ≤ at.line + 1 }
     ensures column { result.column ≤ at.column + 1 }
 {
