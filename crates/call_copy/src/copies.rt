@@ -1,6 +1,6 @@
 //! Copies of parameters into the enclave and back.
 
-ghost use Rattle.std.specs.Prelude.{ℕ, List, ◌≡◌, ◌<◌, ◌≤◌, ◌+◌, ◌++◌, ◌^◌, false, true, length, replicate, slice_set, IfOk, IfErr, OnOk, IsTrue, IfSome, MatchOption};
+ghost use Rattle.std.specs.Prelude.{ℕ, List, ◌≡◌, ◌<◌, ◌≤◌, ◌+◌, ◌++◌, ◌^◌, false, true, length, replicate, IfOk, IfErr, OnOk, IsTrue, IfSome, MatchOption};
 ghost use Rattle.sgx_base.specs.Bytes.{is_divisible, rounded_size};
 ghost use Rattle.sgx_base.specs.Passing.{is_inward as is_copied_in};
 ghost use Rattle.sgx_base.specs.Texts.{cut_text};
@@ -12,7 +12,8 @@ ghost use Rattle.word_port.specs.Runs.{Makes, StopsFull};
 ghost use Rattle.word_port.specs.declared.RunFull.TheVariants.{Steps};
 ghost use Rattle.enclave_memory.specs.Memory.{IsBlock, IsLive, IsPush, IsWrite, room_of};
 ghost use Rattle.call_copy.specs.Copies.{block_rows, first_bytes, copy_in as copied_in, copy_out as copied_out};
-ghost use Rattle.call_copy.specs.Stops.{MatchStop};
+ghost use Rattle.call_copy.specs.Blocks.{IsSetTo};
+ghost use Rattle.call_copy.specs.Stops.{IsCutShort, MatchStop};
 
 use crate::ranges::{fetch_range, put_range, put_zeros};
 use crate::texts::end_text;
@@ -34,10 +35,14 @@ fn copy_buffer_in<P: WordPort>(
     requires some { 0 < length }
     requires mapped { IsTrue (is_mapped (P.state port.old).host at length) }
     requires plain { shape.text ≡ false }
-    ensures ok { IfOk result (λ block. (bytes : List ℕ) × Makes (copied_in shape at length (room_of arena.old)) (P.state port.old) (P.state port.new) (Ok bytes) × IsPush arena.old arena.new block bytes) }
+    ensures ok { IfOk result (λ block. (bytes : List ℕ)
+        × Makes (copied_in shape at length (room_of arena.old)) (P.state port.old) (P.state port.new) (Ok bytes)
+        × IsPush arena.old arena.new block bytes) }
     ensures err { IfErr result (λ stop. MatchStop stop
-        (λ status. Makes (copied_in shape at length (room_of arena.old)) (P.state port.old) (P.state port.new) (Err status) × (arena.new ≡ arena.old))
-        (λ full. (full ≡ Steps) × StopsFull (copied_in shape at length (room_of arena.old)) (P.state port.old) (P.state port.new))) }
+        (λ status.
+        Makes (copied_in shape at length (room_of arena.old)) (P.state port.old) (P.state port.new) (Err status)
+        × (arena.new ≡ arena.old))
+        (IsCutShort (copied_in shape at length (room_of arena.old)) (P.state port.old) (P.state port.new))) }
 {
     first_block(port, at, length, shape, arena)
 }
@@ -54,10 +59,14 @@ pub fn copy_in<P: WordPort>(
 ) -> Result<Block, CopyStop>
     requires some { 0 < length }
     requires mapped { IsTrue (is_mapped (P.state port.old).host at length) }
-    ensures ok { IfOk result (λ block. (bytes : List ℕ) × Makes (copied_in shape at length (room_of arena.old)) (P.state port.old) (P.state port.new) (Ok bytes) × IsPush arena.old arena.new block bytes) }
+    ensures ok { IfOk result (λ block. (bytes : List ℕ)
+        × Makes (copied_in shape at length (room_of arena.old)) (P.state port.old) (P.state port.new) (Ok bytes)
+        × IsPush arena.old arena.new block bytes) }
     ensures err { IfErr result (λ stop. MatchStop stop
-        (λ status. Makes (copied_in shape at length (room_of arena.old)) (P.state port.old) (P.state port.new) (Err status) × (arena.new ≡ arena.old))
-        (λ full. (full ≡ Steps) × StopsFull (copied_in shape at length (room_of arena.old)) (P.state port.old) (P.state port.new))) }
+        (λ status.
+        Makes (copied_in shape at length (room_of arena.old)) (P.state port.old) (P.state port.new) (Err status)
+        × (arena.new ≡ arena.old))
+        (IsCutShort (copied_in shape at length (room_of arena.old)) (P.state port.old) (P.state port.new))) }
 {
     if !shape.text {
         return copy_buffer_in(port, at, length, shape, arena);
@@ -85,8 +94,10 @@ pub fn copy_out<P: WordPort>(
     requires mapped { IsTrue (is_mapped (P.state port.old).host at block.length) }
     requires live { IsLive arena.now block }
     requires whole { shape.text ≡ true → (0 < block.length) × (is_divisible block.length shape.unit ≡ true) }
-    ensures ok { (number : ℕ) (bytes : List ℕ) → IsBlock arena.now block number bytes → OnOk result (Makes (copied_out shape at bytes) (P.state port.old) (P.state port.new) tt) }
-    ensures full { (number : ℕ) (bytes : List ℕ) → IsBlock arena.now block number bytes → IfErr result (λ full. (full ≡ Steps) × StopsFull (copied_out shape at bytes) (P.state port.old) (P.state port.new)) }
+    ensures ok { (number : ℕ) (bytes : List ℕ) → IsBlock arena.now block number bytes
+        → OnOk result (Makes (copied_out shape at bytes) (P.state port.old) (P.state port.new) tt) }
+    ensures full { (number : ℕ) (bytes : List ℕ) → IsBlock arena.now block number bytes
+        → IfErr result (IsCutShort (copied_out shape at bytes) (P.state port.old) (P.state port.new)) }
 {
     if !shape.text {
         return copy_buffer_out(port, at, shape, arena, block);
@@ -99,8 +110,10 @@ fn put_text<P: WordPort>(port: &mut P, at: u64, bytes: &[u8], unit: u32) -> Resu
     requires mapped { IsTrue (is_mapped (P.state port.old).host at (length bytes.now)) }
     requires some { 0 < length bytes.now }
     requires whole { is_divisible (length bytes.now) unit ≡ true }
-    ensures ok { OnOk result (Makes (stores Enclave at (cut_text unit bytes.now)) (P.state port.old) (P.state port.new) tt) }
-    ensures full { IfErr result (λ full. (full ≡ Steps) × StopsFull (stores Enclave at (cut_text unit bytes.now)) (P.state port.old) (P.state port.new)) }
+    ensures ok { OnOk result
+        (Makes (stores Enclave at (cut_text unit bytes.now)) (P.state port.old) (P.state port.new) tt) }
+    ensures full { IfErr result
+        (IsCutShort (stores Enclave at (cut_text unit bytes.now)) (P.state port.old) (P.state port.new)) }
 {
     let body = &bytes[..bytes.len() - unit as usize];
     match terminated_length(body, unit) {
@@ -114,8 +127,10 @@ fn put_ended<P: WordPort>(port: &mut P, at: u64, body: &[u8], unit: u32) -> Resu
     requires mapped { IsTrue (is_mapped (P.state port.old).host at (length body.now + unit)) }
     requires some { 0 < unit }
     requires fits { length body.now + unit < 2 ^ 64 }
-    ensures ok { OnOk result (Makes (stores Enclave at (body.now ++ replicate unit 0)) (P.state port.old) (P.state port.new) tt) }
-    ensures full { IfErr result (λ full. (full ≡ Steps) × StopsFull (stores Enclave at (body.now ++ replicate unit 0)) (P.state port.old) (P.state port.new)) }
+    ensures ok { OnOk result
+        (Makes (stores Enclave at (body.now ++ replicate unit 0)) (P.state port.old) (P.state port.new) tt) }
+    ensures full { IfErr result
+        (IsCutShort (stores Enclave at (body.now ++ replicate unit 0)) (P.state port.old) (P.state port.new)) }
 {
     put_range(port, Side::Enclave, at, body)?;
     put_zeros(port, Side::Enclave, at, body.len() as u64, unit)
@@ -132,8 +147,10 @@ fn copy_buffer_out<P: WordPort>(
     requires mapped { IsTrue (is_mapped (P.state port.old).host at block.length) }
     requires live { IsLive arena.now block }
     requires plain { shape.text ≡ false }
-    ensures ok { (number : ℕ) (bytes : List ℕ) → IsBlock arena.now block number bytes → OnOk result (Makes (copied_out shape at bytes) (P.state port.old) (P.state port.new) tt) }
-    ensures full { (number : ℕ) (bytes : List ℕ) → IsBlock arena.now block number bytes → IfErr result (λ full. (full ≡ Steps) × StopsFull (copied_out shape at bytes) (P.state port.old) (P.state port.new)) }
+    ensures ok { (number : ℕ) (bytes : List ℕ) → IsBlock arena.now block number bytes
+        → OnOk result (Makes (copied_out shape at bytes) (P.state port.old) (P.state port.new) tt) }
+    ensures full { (number : ℕ) (bytes : List ℕ) → IsBlock arena.now block number bytes
+        → IfErr result (IsCutShort (copied_out shape at bytes) (P.state port.old) (P.state port.new)) }
 {
     put_range(port, Side::Enclave, at, arena.bytes(block))
 }
@@ -148,11 +165,16 @@ fn first_block<P: WordPort>(
 ) -> Result<Block, CopyStop>
     requires some { 0 < length }
     requires mapped { IsTrue (is_mapped (P.state port.old).host at length) }
-    ensures ok { IfOk result (λ block. (first_row (block_rows shape length (room_of arena.old)) ≡ None) × (block.length ≡ length) × ((bytes : List ℕ) × Makes (first_bytes shape at length) (P.state port.old) (P.state port.new) bytes × IsPush arena.old arena.new block bytes)) }
+    ensures ok { IfOk result (λ block. (first_row (block_rows shape length (room_of arena.old)) ≡ None)
+        × (block.length ≡ length)
+        × ((bytes : List ℕ) × Makes (first_bytes shape at length) (P.state port.old) (P.state port.new) bytes
+        × IsPush arena.old arena.new block bytes)) }
     ensures whole { OnOk result (is_divisible length shape.unit ≡ true) }
     ensures err { IfErr result (λ stop. MatchStop stop
-        (λ status. (first_row (block_rows shape length (room_of arena.old)) ≡ Some status) × (P.state port.new ≡ P.state port.old) × (arena.new ≡ arena.old))
-        (λ full. (first_row (block_rows shape length (room_of arena.old)) ≡ None) × (full ≡ Steps) × StopsFull (first_bytes shape at length) (P.state port.old) (P.state port.new))) }
+        (λ status. (first_row (block_rows shape length (room_of arena.old)) ≡ Some status)
+        × (P.state port.new ≡ P.state port.old) × (arena.new ≡ arena.old))
+        (λ full. (first_row (block_rows shape length (room_of arena.old)) ≡ None) × (full ≡ Steps)
+        × StopsFull (first_bytes shape at length) (P.state port.old) (P.state port.new))) }
 {
     if !divisible(length, u64::from(shape.unit)) {
         return Err(CopyStop::Refused(Status::INVALID_PARAMETER));
@@ -176,8 +198,10 @@ fn fill_block<P: WordPort>(
 ) -> Result<(), RunFull>
     requires mapped { IsTrue (is_mapped (P.state port.old).host at block.length) }
     requires zeros { (number : ℕ) × IsBlock arena.old block number (replicate block.length 0) }
-    ensures ok { OnOk result ((bytes : List ℕ) × Makes (first_bytes shape at block.length) (P.state port.old) (P.state port.new) bytes × (block.length ≡ length bytes) × ((number : ℕ) (first : List ℕ) → IsBlock arena.old block number first → arena.new ≡ record arena.old { blocks = slice_set arena.old.blocks number bytes })) }
-    ensures full { IfErr result (λ full. (full ≡ Steps) × StopsFull (first_bytes shape at block.length) (P.state port.old) (P.state port.new)) }
+    ensures ok { OnOk result ((bytes : List ℕ)
+        × Makes (first_bytes shape at block.length) (P.state port.old) (P.state port.new) bytes
+        × (block.length ≡ length bytes) × IsSetTo arena.old arena.new block bytes) }
+    ensures full { IfErr result (IsCutShort (first_bytes shape at block.length) (P.state port.old) (P.state port.new)) }
 {
     if is_inward(shape.way) {
         fetch_range(port, Side::Enclave, at, arena, block)
@@ -199,7 +223,9 @@ fn is_inward(way: Passing) -> bool
 /// Begins a block of so many bytes, if they fit.
 fn push_length(arena: &mut Arena, length: u64) -> Option<Block>
     requires { 0 < length }
-    ensures pushed { MatchOption result ((arena.new ≡ arena.old) × (room_of arena.old < rounded_size length)) (λ block. IsPush arena.old arena.new block (replicate length 0)) }
+    ensures pushed { MatchOption result
+        ((arena.new ≡ arena.old) × (room_of arena.old < rounded_size length))
+        (λ block. IsPush arena.old arena.new block (replicate length 0)) }
     ensures fits { IfSome result (λ block. rounded_size length ≤ room_of arena.old) }
 {
     if length > u64::from(arena.room()) {

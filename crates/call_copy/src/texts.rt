@@ -12,8 +12,10 @@ pub(crate) fn end_text(arena: &mut Arena, block: Block, unit: u32) -> bool
     requires live { IsLive arena.old block }
     requires some { 0 < unit }
     requires fits { unit ≤ block.length }
-    ensures set { (number : ℕ) (old : List ℕ) → IsBlock arena.old block number old → arena.new ≡ record arena.old { blocks = slice_set arena.old.blocks number (terminated_text unit old) } }
-    ensures early { (number : ℕ) (old : List ℕ) → IsBlock arena.old block number old → result ≡ has_early_end unit (terminated_text unit old) }
+    ensures set { (number : ℕ) (old : List ℕ) → IsBlock arena.old block number old
+        → arena.new ≡ record arena.old { blocks = slice_set arena.old.blocks number (terminated_text unit old) } }
+    ensures early { (number : ℕ) (old : List ℕ) → IsBlock arena.old block number old
+        → result ≡ has_early_end unit (terminated_text unit old) }
 {
     arena.zero_from(block, block.length - unit);
     let bytes = arena.bytes(block);

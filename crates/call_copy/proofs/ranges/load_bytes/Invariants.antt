@@ -2,11 +2,10 @@ use Rattle.std.proofs.Common.{◌+◌, ◌-◌, ◌++◌, length, take}
 use Rattle.word_port.specs.Interaction.{and_then, ret}
 use Rattle.word_port.specs.Accesses.{loads}
 use Rattle.word_port.specs.Runs.{Leads}
-use Rattle.word_port.specs.declared.Side.TheVariants.{Host}
-use Rattle.call_machine.proofs.strings.load_bytes.Given as goal
+use Rattle.call_copy.proofs.ranges.load_bytes.Given as goal
 
 -- the loads so far leave the loads of the bytes that are still to come
 abbrev pub invariant-loop-i : goal.invariant-loop-i
 invariant-loop-i g l =
-    Leads (loads Host l.at (length l.fn.out)) (g.P.WordPort.state l.fn.port) (g.P.WordPort.state l.port)
-    (and_then (loads Host (l.at + l.i) (length l.fn.out - l.i)) (λ bytes. ret (take l.i l.out ++ bytes)))
+    Leads (loads l.side l.at (length l.fn.out)) (g.P.WordPort.state l.fn.port) (g.P.WordPort.state l.port)
+    (and_then (loads l.side (l.at + l.i) (length l.fn.out - l.i)) (λ bytes. ret (take l.i l.out ++ bytes)))
