@@ -6,12 +6,14 @@ use Rattle.edl_interface.specs.declared.Function.{Function}
 use Rattle.edl_interface.specs.declared.Interface.{Interface}
 use Rattle.word_port.specs.Port.{PortState}
 use Rattle.word_port.specs.Runs.{Runs}
-use Rattle.bridge_program.specs.Entry.{Entered, MayEnter}
+use Rattle.bridge_program.specs.Entry.{Entered as OnStack, MayEnter}
 use Rattle.call_report.specs.declared.CallKind.TheVariants.{Ecall}
 use Rattle.call_report.specs.declared.Way.{Way}
 use Rattle.call_report.specs.declared.CallRecord.{CallRecord}
 use Rattle.call_report.specs.RecordList.{RecordList, records_left, with_records}
 use Rattle.call_machine.specs.declared.Machine.{Machine}
+use Rattle.call_machine.specs.declared.entry.Entered.{Entered}
+use Rattle.call_machine.specs.declared.entry.Entered.TheVariants.{Answered as answered, Refused}
 use Rattle.call_machine.specs.Context.{Context, depth_of}
 use Rattle.call_machine.specs.Ecall.{ecall_outcome}
 use Rattle.call_machine.specs.Result.{Outcome}
@@ -24,14 +26,14 @@ not_there : (o : Option Function) → o ≡ None → IsSome o → ⊥
 not_there None e h = cc
 not_there (Some f) e h = cc
 
-in_progress : (i : Interface) (none : i.ocalls ≡ []) (ordinal : ℕ) (ocall : Option ℕ) (stack : List Entered) → MayEnter i (record { ordinal = ordinal; ocall = ocall } ∷ stack) → ⊥
+in_progress : (i : Interface) (none : i.ocalls ≡ []) (ordinal : ℕ) (ocall : Option ℕ) (stack : List OnStack) → MayEnter i (record { ordinal = ordinal; ocall = ocall } ∷ stack) → ⊥
 in_progress i none ordinal None stack may = may
 in_progress i none ordinal (Some k) stack may =
     let past : slice_get i.ocalls k ≡ None = rw none refl in
     not_there (slice_get i.ocalls k) past may
 
 -- with no OCALL in the interface, no call is in progress where an ECALL may be tried
-pub may_enter_empty : (i : Interface) (none : i.ocalls ≡ []) (stack : List Entered) → MayEnter i stack → stack ≡ []
+pub may_enter_empty : (i : Interface) (none : i.ocalls ≡ []) (stack : List OnStack) → MayEnter i stack → stack ≡ []
 may_enter_empty i none [] may = refl
 may_enter_empty i none (e ∷ stack) may = absurd (in_progress i none e.ordinal e.ocall stack may)
 
@@ -57,19 +59,19 @@ one_record_less r after x e h =
 pub room_for_one : (n limit : ℕ) → n ≤ limit → (n ≡ limit → ⊥) → n < limit
 room_for_one n limit h full = omega arith
 
-outcome_status : (cx : Context) (ordinal address first last : ℕ) (way : Way) (begun : CallRecord) (answer : Result ℕ Status)
+outcome_status : (cx : Context) (ordinal address first last : ℕ) (way : Way) (begun : CallRecord) (answer : Entered)
     → (ecall_outcome cx ordinal address way first last (ends_as answer)).status ≡ (ended_record begun first last answer).status
-outcome_status cx ordinal address first last way begun (Ok turn) = refl
-outcome_status cx ordinal address first last way begun (Err status) = refl
+outcome_status cx ordinal address first last way begun (answered turn) = refl
+outcome_status cx ordinal address first last way begun (Refused status) = refl
 
-outcome_records : (cx : Context) (ordinal address first last depth : ℕ) (way : Way) (answer : Result ℕ Status) → depth ≡ depth_of cx
+outcome_records : (cx : Context) (ordinal address first last depth : ℕ) (way : Way) (answer : Entered) → depth ≡ depth_of cx
     → (ecall_outcome cx ordinal address way first last (ends_as answer)).records
     ≡ ended_record (record { kind = Ecall; ordinal = ordinal; depth = depth; frame = address; way = way; status = SUCCESS; first = 0; turn = 0; last = 0 }) first last answer ∷ []
-outcome_records cx ordinal address first last depth way (Ok turn) e = rw e refl
-outcome_records cx ordinal address first last depth way (Err status) e = rw e refl
+outcome_records cx ordinal address first last depth way (answered turn) e = rw e refl
+outcome_records cx ordinal address first last depth way (Refused status) e = rw e refl
 
 -- an ECALL that was made, with its record in the list
-pub ecall_ends : (m : Machine) (ordinal address depth first last place : ℕ) (way : Way) (before after : TcsState) (r pushed set : RecordList) (old new : PortState) (answer : Result ℕ Status)
+pub ecall_ends : (m : Machine) (ordinal address depth first last place : ℕ) (way : Way) (before after : TcsState) (r pushed set : RecordList) (old new : PortState) (answer : Entered)
     (begun ended : CallRecord)
     → before.stack ≡ [] → depth ≡ depth_of (context_of before) → after ≡ before → length r.list < r.limit
     → begun ≡ record { kind = Ecall; ordinal = ordinal; depth = depth; frame = address; way = way; status = SUCCESS; first = 0; turn = 0; last = 0 }

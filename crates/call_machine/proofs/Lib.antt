@@ -7,7 +7,6 @@ pub mod EcallRecord
 pub mod FrameBlock
 pub mod HostCalls
 pub mod HostFrames
-pub mod Marshalled
 pub mod OneReport
 pub mod PlainEcall
 pub mod PlainEntry

@@ -19,6 +19,8 @@ use Rattle.word_port.proofs.Laws.{makes_ret, runs_ret, runs_then, stops_first}
 use Rattle.word_port.proofs.EventLaws.{record_then, place_then, steps_then, record_stop, place_stop, steps_stop_then, steps_full_then, no_record}
 use Rattle.call_report.specs.declared.Way.{Way}
 use Rattle.call_machine.specs.declared.Machine.{Machine}
+use Rattle.call_machine.specs.declared.entry.Entered.{Entered}
+use Rattle.call_machine.specs.declared.entry.Entered.TheVariants.{Refused}
 use Rattle.call_machine.specs.Context.{Context}
 use Rattle.call_machine.specs.Refusal.{frame_rows}
 use Rattle.call_machine.specs.Ecall.{Ocalls, loaded_entry, entry_at, entered, ecall_by, ecall_outcome}
@@ -29,7 +31,7 @@ use Rattle.call_machine.specs.Plain.{IsPlainMachine, IsPlainFunction}
 
 -- an ordinal past the table
 pub entry_unknown : (m : Machine) (cx : Context) (ordinal address : ℕ) (port : PortState)
-    → slice_get m.interface.ecalls ordinal ≡ None → EntryRuns m cx ordinal address port port (Err INVALID_FUNCTION)
+    → slice_get m.interface.ecalls ordinal ≡ None → EntryRuns m cx ordinal address port port (Refused INVALID_FUNCTION)
 entry_unknown m cx ordinal address port e ocalls records waits =
     let refused : entered m ocalls cx ordinal address ≡ ret (Err INVALID_FUNCTION) = rw e refl in
     subst (λ t. Runs t (progress port records waits) (progress port records waits) (Err INVALID_FUNCTION)) (sym refused) (runs_ret _ _)
@@ -42,7 +44,7 @@ module _ (m : Machine) (cx : Context) (ordinal address : ℕ) (f : Function)
 
   -- its frame's address is refused
   pub entry_misplaced : (port : PortState) (status : Status)
-      → Err status ≡ unless_refused (first_row (frame_rows m.script.settings.host f address)) → EntryRuns m cx ordinal address port port (Err status)
+      → Err status ≡ unless_refused (first_row (frame_rows m.script.settings.host f address)) → EntryRuns m cx ordinal address port port (Refused status)
   entry_misplaced port status e ocalls records waits =
       let refused : entry_at m ocalls cx ordinal address (Some f) ≡ ret (Err status) = rw (← e) refl in
       subst (λ t. Runs t (progress port records waits) (progress port records waits) (Err status)) (sym (entered_is ocalls ∙ refused)) (runs_ret _ _)
@@ -54,7 +56,7 @@ module _ (m : Machine) (cx : Context) (ordinal address : ℕ) (f : Function)
         entered_is ocalls ∙ admitted
 
     -- its frame is loaded, and the rest follows
-    pub entry_goes_on : (old mid new : PortState) (frame : List ℕ) (answer : Result ℕ Status)
+    pub entry_goes_on : (old mid new : PortState) (frame : List ℕ) (answer : Entered)
         → Makes (loads Enclave address f.frame_size) old mid frame
         → ((ocalls : Ocalls) (records waits : ℕ) → Runs (loaded_entry m ocalls cx ordinal address f frame) (progress mid records waits) (progress new records waits) (ends_as answer))
         → EntryRuns m cx ordinal address old new answer
@@ -87,7 +89,7 @@ module _ (m : Machine) (cx : Context) (ordinal address : ℕ) (way : Way) (empty
   ecall_is = rw empty refl
 
   -- the entry is made, with its record
-  pub ecall_runs : (answer : Result ℕ Status) (first last before after waits : ℕ) (old new : PortState)
+  pub ecall_runs : (answer : Entered) (first last before after waits : ℕ) (old new : PortState)
       → before ≡ after + 1 → first ≡ length old.log → last ≡ length new.log → EntryRuns m cx ordinal address old new answer
       → Runs (ecall m cx ordinal address way) (progress old before waits) (progress new after waits) (ecall_outcome cx ordinal address way first last (ends_as answer))
   unfolding ecall_by
@@ -129,7 +131,7 @@ module _ (m : Machine) (machine : IsPlainMachine m) (cx : Context) (ordinal addr
   is_open = (function_is m machine ordinal f here_is).is_public
 
   -- the entry, by the load of its frame and what follows
-  pub entry_loaded : (old new : PortState) (answer : Result ℕ Status)
+  pub entry_loaded : (old new : PortState) (answer : Entered)
       → ((fields : List ℕ) × (mid : PortState) × Makes (loads Enclave address f.frame_size) old mid fields × LoadedRuns m room ordinal address f fields mid new answer)
       → EntryRuns m cx ordinal address old new answer
   entry_loaded old new answer p =

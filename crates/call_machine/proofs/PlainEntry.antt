@@ -15,6 +15,7 @@ use Rattle.word_port.proofs.EventLaws.{place_then, steps_then, place_stop, steps
 use Rattle.enclave_memory.specs.Memory.{Memory, taken_by}
 use Rattle.body_vm.specs.declared.Body.{Body}
 use Rattle.call_machine.specs.declared.Machine.{Machine}
+use Rattle.call_machine.specs.declared.entry.Entered.TheVariants.{Answered as answered, Refused}
 use Rattle.call_machine.specs.Context.{Context}
 use Rattle.call_machine.specs.Refusal.{field_rows}
 use Rattle.call_machine.specs.Result.{go_on_if_ok}
@@ -27,7 +28,7 @@ use Rattle.call_machine.proofs.Results.{result_made}
 
 -- an entry that its fields refuse
 pub loaded_refused : (m : Machine) (room ordinal address : ℕ) (f : Function) (frame : List ℕ) (port : PortState) (status : Status)
-    → Err status ≡ unless_refused (first_row (field_rows m.script.settings.host f frame)) → LoadedRuns m room ordinal address f frame port port (Err status)
+    → Err status ≡ unless_refused (first_row (field_rows m.script.settings.host f frame)) → LoadedRuns m room ordinal address f frame port port (Refused status)
 loaded_refused m room ordinal address f frame port status e ocalls cx records waits is =
     let refused : loaded_entry m ocalls cx ordinal address f frame ≡ ret (Err status) = rw (← e) refl in
     subst (λ t. Runs t (progress port records waits) (progress port records waits) (Err status)) (sym refused) (runs_ret (Err status) (progress port records waits))
@@ -50,7 +51,7 @@ module _ (m : Machine) (room ordinal address : ℕ) (f : Function) (frame : List
   two_parts ocalls cx = rw allowed refl
 
   -- a parameter is refused
-  pub entry_refused : (old new : PortState) (status : Status) → Makes (copying room) old new (Err status) → LoadedRuns m room ordinal address f frame old new (Err status)
+  pub entry_refused : (old new : PortState) (status : Status) → Makes (copying room) old new (Err status) → LoadedRuns m room ordinal address f frame old new (Refused status)
   entry_refused old new status refused ocalls cx records waits is =
       subst (λ t. Runs t (progress old records waits) (progress new records waits) (Err status)) (sym (two_parts ocalls cx))
       (steps_then (copying cx.room) (answering ocalls cx) (ret (Err status)) old new records waits (progress new records waits) (Err status)
@@ -72,7 +73,7 @@ module _ (m : Machine) (room ordinal address : ℕ) (f : Function) (frame : List
     abbrev ended : ℕ → Unit {0} → Interaction (Result Answered Status)
     ended place stored = ret (Ok (answered_at place))
 
-    pub entry_answers : (new : PortState) → Makes (putting value) mid new tt → LoadedRuns m room ordinal address f frame old new (Ok turn)
+    pub entry_answers : (new : PortState) → Makes (putting value) mid new tt → LoadedRuns m room ordinal address f frame old new (answered turn)
     entry_answers new put ocalls cx records waits is =
         let end : Interaction (Result Answered Status) = ret (Ok (answered_at turn)) in
         let total : ℕ = sum_value body.actions copies.blocks in

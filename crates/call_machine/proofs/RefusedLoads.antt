@@ -22,6 +22,8 @@ use Rattle.call_copy.specs.declared.Shape.{Shape}
 use Rattle.call_copy.specs.Copies.{block_rows, first_bytes, checked_bytes, copy_unless, copy_in}
 use Rattle.call_report.specs.declared.CallRecord.{CallRecord}
 use Rattle.call_machine.specs.declared.Machine.{Machine}
+use Rattle.call_machine.specs.declared.entry.Entered.{Entered}
+use Rattle.call_machine.specs.declared.entry.Entered.TheVariants.{Answered as answered, Refused}
 use Rattle.call_machine.specs.Context.{Context, context_in_ecall}
 use Rattle.call_machine.specs.Refusal.{frame_rows, field_rows}
 use Rattle.bridge_program.specs.Entry.{entry_rows}
@@ -151,16 +153,16 @@ module _ (m : Machine) (ocalls : Ocalls) (cx : Context) (ordinal address : ℕ) 
 
 all_loads : (steps : List Step) → AllSteps IsLoadRequest steps → All IsEnclaveLoad steps
 all_loads [] p = All-nil IsEnclaveLoad
-all_loads (s ∷ steps) p = All-cons IsEnclaveLoad s steps (record { side = p.0.side; kind = p.0.kind }) (all_loads steps p.1)
+all_loads (s ∷ steps) p = All-cons IsEnclaveLoad s steps (p.0.side, p.0.kind) (all_loads steps p.1)
 
 -- the steps of a refused entry
-refused_only : (m : Machine) (cx : Context) (ordinal address : ℕ) (old new : PortState) (status : Status) → EntryRuns m cx ordinal address old new (Err status) → OnlyLoads old new
+refused_only : (m : Machine) (cx : Context) (ordinal address : ℕ) (old new : PortState) (status : Status) → EntryRuns m cx ordinal address old new (Refused status) → OnlyLoads old new
 refused_only m cx ordinal address old new status runs =
     let r = runs no_ocalls 0 0 in
     record { steps = steps_of r.events; grown = r.grown; loads = all_loads (steps_of r.events) (refused_loads m no_ocalls cx ordinal address r.events status r.begun) }
 
 -- an entry whose status is not SUCCESS is a refused one
-pub only_loads : (m : Machine) (cx : Context) (ordinal address : ℕ) (old new : PortState) (begun : CallRecord) (first last : ℕ) (status : Status) (answer : Result ℕ Status)
+pub only_loads : (m : Machine) (cx : Context) (ordinal address : ℕ) (old new : PortState) (begun : CallRecord) (first last : ℕ) (status : Status) (answer : Entered)
     → EntryRuns m cx ordinal address old new answer → status ≡ (ended_record begun first last answer).status → status ≢ SUCCESS → OnlyLoads old new
-only_loads m cx ordinal address old new begun first last status (Ok turn) runs is other = absurd (other is)
-only_loads m cx ordinal address old new begun first last status (Err refusal) runs is other = refused_only m cx ordinal address old new refusal runs
+only_loads m cx ordinal address old new begun first last status (answered turn) runs is other = absurd (other is)
+only_loads m cx ordinal address old new begun first last status (Refused refusal) runs is other = refused_only m cx ordinal address old new refusal runs

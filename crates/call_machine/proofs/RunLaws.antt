@@ -79,14 +79,16 @@ report_of_run m port new records made t u acts out text o run made_is legal with
 pub cut_of_run : (m : Machine) (port new : PortState) (records : RecordList) (t : TcsState) (acts : List HostAct) (full : RunFull) → IsOpening m port records t acts
     → StopsAt full (thread m (context_of t) acts) (moment port records t) new
     → IsLegal (words_named new.name) (with_races new.host (races_named new.name) new.log)
+    → length new.log ≤ new.limit
     → IsCutBy m full
-cut_of_run m port new records t acts full o stops legal =
+cut_of_run m port new records t acts full o stops legal within =
     let of_words : IsOf m new = subst (IsOf m) stops.port (is_of m port records t acts o (thread m (context_of t) acts) stops.after stops.rest stops.reaches) in
     record {
       port = unnamed new;
       stops = subst (λ (b : Progress). StopsAt full (first_thread m) b (unnamed new)) (moment_is m port records t acts o)
           (stops_unnamed full (first_thread m) (moment port records t) new
           (subst (λ (b : Interaction Outcome). StopsAt full b (moment port records t) new) (thread_is m port records t acts o) stops));
+      within = subst (λ (n : ℕ). length new.log ≤ n) of_words.2 within;
       legal = legal_from_name new m.script.words m.script.settings.host m.script.races of_words.0 of_words.1 legal;
     }
 

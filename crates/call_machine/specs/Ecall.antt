@@ -98,13 +98,17 @@ pub record Finished : Type 0 where
   pub blocks : List (Option (List ℕ))
   pub records : List CallRecord
 
+-- what a body gives that made no OCALL
+abbrev pub finished : ℕ → List (Option (List ℕ)) → Finished
+finished value blocks = record { value = value; blocks = blocks; records = [] }
+
 -- what a body gives, after the records of an OCALL
 abbrev pub after_records : List CallRecord → Finished → Finished
 after_records records done = record done { records = records ++ done.records }
 
 -- carries out what a body asks for, one request after another
 abbrev pub interpret : Machine → Ocalls → Context → Execution → Interaction Finished
-interpret m ocalls cx (returned value blocks) = ret (record { value = value; blocks = blocks; records = [] })
+interpret m ocalls cx (returned value blocks) = ret (finished value blocks)
 interpret m ocalls cx (on_cell q next) =
     ask (record { side = Enclave; kind = q.kind; index = cell_word m.script.settings q.cell; first = q.first; second = q.second }) (λ old. interpret m ocalls cx (next old))
 interpret m ocalls cx (on_ocall q next) =

@@ -1,5 +1,5 @@
 -- How the engine's entry of an ECALL stands to its behaviour: blocks of the arena for lists of bytes, and steps of the port for its runs.
-use Rattle.std.specs.Prelude.{ℕ, ◌≡◌, ◌<◌, ◌^◌, ◌==◌, if◌then◌else◌, true, false, List, [], ◌∷◌, ◌++◌, length, sum, Option, Some, None, unwrap_or, slice_get, Result, Ok, Err, IsTrue, All}
+use Rattle.std.specs.Prelude.{ℕ, ◌≡◌, ◌<◌, ◌^◌, ◌==◌, ◌⊎◌, if◌then◌else◌, true, false, List, [], ◌∷◌, ◌++◌, length, sum, Option, Some, None, unwrap_or, slice_get, Result, Ok, Err, IsTrue, All}
 use Rattle.sgx_base.specs.Bytes.{is_divisible}
 use Rattle.sgx_base.specs.Ranges.{is_mapped}
 use Rattle.sgx_base.specs.declared.Status.{Status}
@@ -15,7 +15,8 @@ use Rattle.word_port.specs.declared.RunFull.TheVariants.{Steps}
 use Rattle.word_port.specs.Interaction.{Interaction, ret, map_value}
 use Rattle.word_port.specs.Limits.{progress}
 use Rattle.word_port.specs.Port.{PortState, with_steps}
-use Rattle.word_port.specs.Runs.{Makes, Runs, StopsAt}
+use Rattle.word_port.specs.Accesses.{loads}
+use Rattle.word_port.specs.Runs.{Makes, Runs, StopsAt, StopsFull}
 use Rattle.enclave_memory.specs.declared.Block.{Block}
 use Rattle.enclave_memory.specs.Memory.{Memory, IsBlock, IsPush, room_of}
 use Rattle.body_vm.specs.declared.Action.{Action}
@@ -24,26 +25,28 @@ use Rattle.call_copy.specs.Copies.{copy_in, copy_out}
 use Rattle.call_report.specs.declared.CallRecord.{CallRecord}
 use Rattle.call_machine.specs.declared.Machine.{Machine}
 use Rattle.call_machine.specs.Context.{Context}
-use Rattle.call_machine.specs.Ecall.{Answered, Finished, Ocalls, shape_of, copies_in, entered, loaded_entry}
+use Rattle.call_machine.specs.declared.entry.Entered.{Entered}
+use Rattle.call_machine.specs.declared.entry.Entered.TheVariants.{Answered as answered, Refused}
+use Rattle.call_machine.specs.Ecall.{Answered, Finished, Ocalls, finished, shape_of, copies_in, entered, loaded_entry}
 
 -- an answered entry whose answer begins at a place of the log, and in which no call was made
 abbrev pub answered_at : ℕ → Answered
 answered_at turn = record { turn = turn; records = [] }
 
 -- an entry's answer by its place, or its refusal
-abbrev pub ends_as : Result ℕ Status → Result Answered Status
-ends_as (Ok turn) = Ok (answered_at turn)
-ends_as (Err status) = Err status
+abbrev pub ends_as : Entered → Result Answered Status
+ends_as (answered turn) = Ok (answered_at turn)
+ends_as (Refused status) = Err status
 
 -- the record of an entry that began so, once it has ended
-abbrev pub ended_record : CallRecord → ℕ → ℕ → Result ℕ Status → CallRecord
-ended_record begun first last (Ok turn) = record begun { status = SUCCESS; first = first; turn = turn; last = last }
-ended_record begun first last (Err status) = record begun { status = status; first = first; turn = last; last = last }
+abbrev pub ended_record : CallRecord → ℕ → ℕ → Entered → CallRecord
+ended_record begun first last (answered turn) = record begun { status = SUCCESS; first = first; turn = turn; last = last }
+ended_record begun first last (Refused status) = record begun { status = status; first = first; turn = last; last = last }
 
 -- whatever OCALLs do, the port has made an entry that ended so
-abbrev pub EntryRuns : Machine → Context → ℕ → ℕ → PortState → PortState → Result ℕ Status → Type 0
-EntryRuns m cx ordinal address old new answer =
-    (ocalls : Ocalls) (records waits : ℕ) → Runs (entered m ocalls cx ordinal address) (progress old records waits) (progress new records waits) (ends_as answer)
+abbrev pub EntryRuns : Machine → Context → ℕ → ℕ → PortState → PortState → Entered → Type 0
+EntryRuns m cx ordinal address old new how =
+    (ocalls : Ocalls) (records waits : ℕ) → Runs (entered m ocalls cx ordinal address) (progress old records waits) (progress new records waits) (ends_as how)
 
 -- whatever OCALLs do, the port's log became full in an entry
 abbrev pub EntryStops : Machine → Context → ℕ → ℕ → PortState → PortState → Type 0
@@ -51,10 +54,10 @@ EntryStops m cx ordinal address old new =
     (ocalls : Ocalls) (records waits : ℕ) → StopsAt Steps (entered m ocalls cx ordinal address) (progress old records waits) new
 
 -- whatever OCALLs do, the port has made an entry that ended so, once its frame was loaded
-abbrev pub LoadedRuns : Machine → ℕ → ℕ → ℕ → Function → List ℕ → PortState → PortState → Result ℕ Status → Type 0
-LoadedRuns m room ordinal address f frame old new answer =
+abbrev pub LoadedRuns : Machine → ℕ → ℕ → ℕ → Function → List ℕ → PortState → PortState → Entered → Type 0
+LoadedRuns m room ordinal address f frame old new how =
     (ocalls : Ocalls) (cx : Context) (records waits : ℕ) → cx.room ≡ room
-    → Runs (loaded_entry m ocalls cx ordinal address f frame) (progress old records waits) (progress new records waits) (ends_as answer)
+    → Runs (loaded_entry m ocalls cx ordinal address f frame) (progress old records waits) (progress new records waits) (ends_as how)
 
 -- whatever OCALLs do, the port's log became full in an entry, once its frame was loaded
 abbrev pub LoadedStops : Machine → ℕ → ℕ → ℕ → Function → List ℕ → PortState → PortState → Type 0
@@ -62,10 +65,22 @@ LoadedStops m room ordinal address f frame old new =
     (ocalls : Ocalls) (cx : Context) (records waits : ℕ) → cx.room ≡ room
     → StopsAt Steps (loaded_entry m ocalls cx ordinal address f frame) (progress old records waits) new
 
+-- the port has loaded the frame, and made an entry that ended so
+abbrev pub AdmittedRuns : Machine → ℕ → ℕ → ℕ → Function → PortState → PortState → Entered → Type 0
+AdmittedRuns m room ordinal address f old new how =
+    (frame : List ℕ) × (mid : PortState) × Makes (loads Enclave address f.frame_size) old mid frame
+    × LoadedRuns m room ordinal address f frame mid new how
+
+-- the port's log became full as the frame was loaded, or later
+abbrev pub AdmittedStops : Machine → ℕ → ℕ → ℕ → Function → PortState → PortState → Type 0
+AdmittedStops m room ordinal address f old new =
+    StopsFull (loads Enclave address f.frame_size) old new
+    ⊎ ((frame : List ℕ) × (mid : PortState) × Makes (loads Enclave address f.frame_size) old mid frame
+    × LoadedStops m room ordinal address f frame mid new)
+
 -- a step that loads a word, by the enclave
-pub record IsEnclaveLoad (s : Step) : Type 0 where
-  pub side : s.side ≡ Enclave
-  pub kind : s.kind ≡ Load
+abbrev pub IsEnclaveLoad : Step → Type 0
+IsEnclaveLoad s = (s.side ≡ Enclave) × (s.kind ≡ Load)
 
 -- the port has made loads by the enclave, and no other step
 pub record OnlyLoads (old new : PortState) : Type 0 where
@@ -174,4 +189,4 @@ sum_value actions blocks = sum_at blocks (summed_place actions)
 
 -- such a body leaves its blocks as they are
 abbrev pub summed : List Action → List (Option (List ℕ)) → Finished
-summed actions blocks = record { value = sum_value actions blocks; blocks = blocks; records = [] }
+summed actions blocks = finished (sum_value actions blocks) blocks

@@ -3,6 +3,7 @@ pub mod Calls
 pub mod Context
 pub mod Ecall
 pub mod Entry
+pub mod Made
 pub mod Ocall
 pub mod Plain
 pub mod Refusal

@@ -54,4 +54,5 @@ pub record IsReportOf (m : Machine) (text : List ℕ) : Type 0 where
 pub record IsCutBy (m : Machine) (full : RunFull) : Type 0 where
   pub port : PortState
   pub stops : StopsAt full (first_thread m) (beginning m step_limit) port
+  pub within : length port.log ≤ step_limit
   pub legal : IsLegalWithRaces m port

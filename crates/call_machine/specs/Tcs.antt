@@ -1,5 +1,6 @@
 -- What a thread control structure shows of itself.
-use Rattle.std.specs.Prelude.{ℕ, ◌≡◌, List, [], ◌∷◌, None, length}
+use Rattle.std.specs.Prelude.{ℕ, ◌≡◌, ◌≤◌, ◌+◌, List, [], ◌∷◌, None, length}
+use Rattle.sgx_base.specs.Ranges.{host_start}
 use Rattle.word_port.specs.Port.{PortState}
 use Rattle.word_port.specs.Limits.{Progress, progress}
 use Rattle.enclave_memory.specs.Memory.{Memory, room_of}
@@ -34,3 +35,7 @@ IsInBody (e ∷ stack) = e.ocall ≡ None
 pub record IsPortOf (m : Machine) (port : PortState) : Type 0 where
   pub host_is : port.host ≡ m.script.settings.host
   pub words_are : port.words ≡ length m.script.words
+
+-- the host stack lies in the machine's host memory
+abbrev pub HasStackInHost : Machine → TcsState → Type 0
+HasStackInHost m t = (host_start ≤ t.base) × (t.top ≤ host_start + m.script.settings.host)

@@ -39,7 +39,8 @@ fn put_argument(param: &Param, arg: &CallArg, frame: &mut [u8])
     requires word { IsWordSized param.now.class }
     requires arg { IsArgument param.now.class arg.now }
     requires fits { param.now.offset + field_size param.now.class ≤ length frame.old }
-    ensures { frame.new ≡ with_bytes_at frame.old param.now.offset (field_bytes 0 (field_size param.now.class) arg.now) }
+    ensures { frame.new
+        ≡ with_bytes_at frame.old param.now.offset (field_bytes 0 (field_size param.now.class) arg.now) }
 {
     let at = param.offset as usize;
     let size = param.class.field_size() as usize;

@@ -42,7 +42,8 @@ fn summed_place(body: &Body) -> Option<u32>
 /// What a body returns over its blocks.
 pub(crate) fn run_body(body: &Body, arena: &Arena, blocks: &[Option<Block>]) -> u64
     requires { (bytes : List (Option (List ℕ))) × HasBlocks arena.now blocks.now bytes }
-    ensures { (bytes : List (Option (List ℕ))) → HasBlocks arena.now blocks.now bytes → result ≡ sum_value body.now.actions bytes }
+    ensures { (bytes : List (Option (List ℕ))) → HasBlocks arena.now blocks.now bytes
+        → result ≡ sum_value body.now.actions bytes }
 {
     let Some(place) = summed_place(body) else {
         return 0;

@@ -1,12 +1,10 @@
 //! What is checked of a frame: its address before it is loaded, and its fields in its one copy.
 
-ghost use Rattle.std.specs.Prelude.{◌≡◌, ◌^◌, ◌&&◌, ◌==◌, not, nat_lt, IsTrue};
+ghost use Rattle.std.specs.Prelude.{◌≡◌};
 ghost use Rattle.std.specs.List.{list_any};
-ghost use Rattle.sgx_base.specs.Ranges.{is_host_range};
 ghost use Rattle.sgx_base.specs.Rows.{first_row, unless_refused};
-ghost use Rattle.edl_interface.specs.Lengths.{length_in};
-ghost use Rattle.edl_interface.specs.Parameters.{marshalled, address_in};
-ghost use Rattle.call_machine.specs.Refusal.{frame_rows, field_rows};
+ghost use Rattle.edl_interface.specs.Parameters.{marshalled};
+ghost use Rattle.call_machine.specs.Refusal.{is_overlong, is_off_host, frame_rows, field_rows};
 
 use edl_interface::{Function, Param};
 use sgx_base::{Status, host_range};
@@ -29,14 +27,14 @@ pub fn check_frame(function: &Function, host: u32, address: u64) -> Result<(), S
 
 /// Whether a parameter's length is above 2^64 - 1.
 fn is_too_long(function: &Function, frame: &[u8], param: &Param) -> bool
-    ensures { result ≡ not (nat_lt (length_in function.now frame.now param.now) (2 ^ 64)) }
+    ensures { result ≡ is_overlong function.now frame.now param.now }
 {
     function.length(frame, param).is_none()
 }
 
 /// Whether a parameter's pointer is not null and its range may not be read and written as host memory.
 fn is_misplaced(function: &Function, host: u32, frame: &[u8], param: &Param) -> bool
-    ensures { result ≡ (not (address_in frame.now param.now == 0) && not (is_host_range host (address_in frame.now param.now) (length_in function.now frame.now param.now))) }
+    ensures { result ≡ is_off_host host function.now frame.now param.now }
 {
     let address = param.address(frame);
     if address == 0 {
@@ -50,28 +48,22 @@ fn is_misplaced(function: &Function, host: u32, frame: &[u8], param: &Param) -> 
 
 /// Whether the length of some parameter that is copied is above 2^64 - 1.
 fn has_too_long(function: &Function, frame: &[u8]) -> bool
-    ensures { result ≡ list_any (λ p. not (nat_lt (length_in function.now frame.now p) (2 ^ 64))) (marshalled function.now) }
+    ensures { result ≡ list_any (is_overlong function.now frame.now) (marshalled function.now) }
 {
-    let mut found = false;
-    for param in function.params.as_slice() {
-        if param.class.is_marshalled() && is_too_long(function, frame, param) {
-            found = true;
-        }
-    }
-    found
+    let params = function.params.as_slice().iter();
+    params
+        .filter(|param| param.class.is_marshalled())
+        .any(|param| is_too_long(function, frame, param))
 }
 
 /// Whether some parameter that is copied is misplaced.
 fn has_misplaced(function: &Function, host: u32, frame: &[u8]) -> bool
-    ensures { result ≡ list_any (λ p. not (address_in frame.now p == 0) && not (is_host_range host (address_in frame.now p) (length_in function.now frame.now p))) (marshalled function.now) }
+    ensures { result ≡ list_any (is_off_host host function.now frame.now) (marshalled function.now) }
 {
-    let mut found = false;
-    for param in function.params.as_slice() {
-        if param.class.is_marshalled() && is_misplaced(function, host, frame, param) {
-            found = true;
-        }
-    }
-    found
+    let params = function.params.as_slice().iter();
+    params
+        .filter(|param| param.class.is_marshalled())
+        .any(|param| is_misplaced(function, host, frame, param))
 }
 
 /// Whether the fields of the frame's copy allow the entry: no length is too large, and each pointer is null or its

@@ -4,9 +4,9 @@ ghost use Rattle.std.specs.Prelude.{ℕ, List, ◌≡◌, ◌≤◌, ◌+◌, []
 ghost use Rattle.sgx_base.specs.Ranges.{host_start};
 ghost use Rattle.edl_interface.specs.Parameters.{has_frame};
 ghost use Rattle.word_port.specs.Accesses.{loads};
-ghost use Rattle.word_port.specs.Runs.{Makes, Runs, StopsAt, StopsFull};
+ghost use Rattle.word_port.specs.Runs.{Makes, Runs, StopsAt};
 ghost use Rattle.word_port.specs.declared.Side.TheVariants.{Host};
-ghost use Rattle.word_port.specs.declared.RunFull.TheVariants.{Steps};
+ghost use Rattle.call_copy.specs.Stops.{IsCutShort};
 ghost use Rattle.ocall_frames.specs.Stack.{frame_below};
 ghost use Rattle.call_report.specs.declared.CallRecord.{CallRecord};
 ghost use Rattle.call_report.specs.RecordList.{with_records};
@@ -14,15 +14,16 @@ ghost use Rattle.call_machine.specs.Calls.{host_call, call_where, call_in_frame,
 ghost use Rattle.call_machine.specs.Context.{Context};
 ghost use Rattle.call_script.specs.PlainScript.{IsPlainCall, AreArguments};
 ghost use Rattle.call_machine.specs.Plain.{IsPlainMachine, IsPlainFunction};
+ghost use Rattle.call_machine.specs.Made.{MakesCalls};
 ghost use Rattle.call_machine.specs.Result.{Outcome};
-ghost use Rattle.call_machine.specs.Tcs.{context_of, moment, IsPortOf};
+ghost use Rattle.call_machine.specs.Tcs.{context_of, moment, HasStackInHost, IsPortOf};
 ghost use Rattle.call_machine.specs.Thread.{ecalls, thread};
 
 use crate::arguments::fill_frame;
 use crate::entry::ecall;
-use crate::strings::{load_bytes, string_lengths};
+use crate::strings::string_lengths;
 use crate::{Machine, Tcs};
-use call_copy::put_range;
+use call_copy::{load_bytes, put_range};
 use call_report::{CallKind, CallRecord, Records, Way};
 use call_script::{CallArg, HostAct};
 use edl_interface::Function;
@@ -35,6 +36,14 @@ const MAX_PARAMS: usize = 64;
 
 /// How many bytes a frame has at most.
 const MAX_FRAME: usize = 1024;
+
+/// A call of a function with its arguments.
+#[derive(Clone, Copy)]
+struct HostCall<'a> {
+    ordinal: u32,
+    function: &'a Function,
+    args: &'a [CallArg],
+}
 
 /// A call whose frame is ready to be written.
 #[derive(Clone, Copy)]
@@ -49,11 +58,12 @@ fn load_return<P: WordPort>(port: &mut P, at: u64, size: u32) -> Result<(), RunF
     requires few { size ≤ 8 }
     requires from { host_start ≤ at }
     requires upto { at + size ≤ host_start + (P.state port.old).host }
-    ensures ok { OnOk result ((bytes : List ℕ) × Makes (loads Host at size) (P.state port.old) (P.state port.new) bytes) }
-    ensures full { IfErr result (λ full. (full ≡ Steps) × StopsFull (loads Host at size) (P.state port.old) (P.state port.new)) }
+    ensures ok { OnOk result ((bytes : List ℕ)
+        × Makes (loads Host at size) (P.state port.old) (P.state port.new) bytes) }
+    ensures full { IfErr result (IsCutShort (loads Host at size) (P.state port.old) (P.state port.new)) }
 {
-    let mut bytes = [0u64; 8];
-    load_bytes(port, at, &mut bytes[..size as usize])
+    let mut bytes = [0; 8];
+    load_bytes(port, Side::Host, at, &mut bytes[..size as usize])
 }
 
 /// The record of a call whose frame does not fit the host stack.
@@ -64,8 +74,11 @@ fn refuse_call<P: WordPort>(
     records: &mut Records,
 ) -> Result<(), RunFull>
     requires stack { tcs.now.stack ≡ [] }
-    ensures ok { OnOk result ((made : List CallRecord) × Runs (no_frame (context_of tcs.now) ordinal) (moment (P.state port.now) records.old tcs.now) (moment (P.state port.now) records.new tcs.now) made × (records.new ≡ with_records records.old made)) }
-    ensures full { IfErr result (λ full. StopsAt full (no_frame (context_of tcs.now) ordinal) (moment (P.state port.now) records.old tcs.now) (P.state port.now)) }
+    ensures ok { OnOk result ((made : List CallRecord) × Runs (no_frame (context_of tcs.now) ordinal)
+        (moment (P.state port.now) records.old tcs.now) (moment (P.state port.now) records.new tcs.now) made
+        × (records.new ≡ with_records records.old made)) }
+    ensures full { IfErr result (λ full. StopsAt full (no_frame (context_of tcs.now) ordinal)
+        (moment (P.state port.now) records.old tcs.now) (P.state port.now)) }
 {
     let _records = records.list();
     let place = port.log().len() as u32;
@@ -99,12 +112,14 @@ fn call_at<P: WordPort>(
     requires whole { length call.frame.now ≡ call.function.now.frame_size }
     requires from { host_start ≤ at }
     requires upto { at + call.function.now.frame_size ≤ host_start + (P.state port.old).host }
-    ensures ok { OnOk result ((cx : Context) → context_of tcs.old ≡ record cx { top = at } → (made : List CallRecord)
-        × Runs (call_in_frame machine.now (ecalls machine.now cx) cx call.entry.ordinal call.entry.function.now call.entry.frame.now at) (moment (P.state port.old) records.old tcs.old) (moment (P.state port.new) records.new tcs.new) made
-        × (records.new ≡ with_records records.old made)
-        × (tcs.new ≡ record tcs.old { waits = tcs.new.waits })) }
-    ensures full { IfErr result (λ full. (cx : Context) → context_of tcs.old ≡ record cx { top = at } →
-        StopsAt full (call_in_frame machine.now (ecalls machine.now cx) cx call.entry.ordinal call.entry.function.now call.entry.frame.now at) (moment (P.state port.old) records.old tcs.old) (P.state port.new)) }
+    ensures ok { OnOk result ((cx : Context) → context_of tcs.old ≡ record cx { top = at } → MakesCalls
+        (call_in_frame machine.now (ecalls machine.now cx) cx
+        call.entry.ordinal call.entry.function.now call.entry.frame.now at)
+        (P.state port.old) (P.state port.new) records.old records.new tcs.old tcs.new) }
+    ensures full { IfErr result (λ full. (cx : Context) → context_of tcs.old ≡ record cx { top = at }
+        → StopsAt full (call_in_frame machine.now (ecalls machine.now cx) cx
+        call.entry.ordinal call.entry.function.now call.entry.frame.now at)
+        (moment (P.state port.old) records.old tcs.old) (P.state port.new)) }
 {
     put_range(port, Side::Host, at, call.frame)?;
     let status = ecall(machine, tcs, port, call.ordinal, at, Way::Ordinary, records)?;
@@ -124,15 +139,20 @@ fn call_on_stack<P: WordPort>(
 ) -> Result<(), RunFull>
     requires machine { IsPlainMachine machine.now }
     requires stack { tcs.old.stack ≡ [] }
-    requires stack_in { (host_start ≤ tcs.old.base) × (tcs.old.top ≤ host_start + machine.now.script.settings.host) }
+    requires stack_in { HasStackInHost machine.now tcs.old }
     requires port { IsPortOf machine.now (P.state port.old) }
     requires plain { IsPlainFunction call.function.now }
     requires whole { length call.frame.now ≡ call.function.now.frame_size }
-    ensures ok { OnOk result ((made : List CallRecord)
-        × Runs (call_where machine.now (ecalls machine.now (context_of tcs.old)) (context_of tcs.old) call.entry.ordinal call.entry.function.now (λ at. call.entry.frame.now) (frame_below tcs.old.base tcs.old.top call.entry.function.now.frame_size)) (moment (P.state port.old) records.old tcs.old) (moment (P.state port.new) records.new tcs.new) made
-        × (records.new ≡ with_records records.old made)
-        × (tcs.new ≡ record tcs.old { waits = tcs.new.waits })) }
-    ensures full { IfErr result (λ full. StopsAt full (call_where machine.now (ecalls machine.now (context_of tcs.old)) (context_of tcs.old) call.entry.ordinal call.entry.function.now (λ at. call.entry.frame.now) (frame_below tcs.old.base tcs.old.top call.entry.function.now.frame_size)) (moment (P.state port.old) records.old tcs.old) (P.state port.new)) }
+    ensures ok { OnOk result (MakesCalls
+        (call_where machine.now (ecalls machine.now (context_of tcs.old)) (context_of tcs.old)
+        call.entry.ordinal call.entry.function.now (λ at. call.entry.frame.now)
+        (frame_below tcs.old.base tcs.old.top call.entry.function.now.frame_size))
+        (P.state port.old) (P.state port.new) records.old records.new tcs.old tcs.new) }
+    ensures full { IfErr result (λ full. StopsAt full
+        (call_where machine.now (ecalls machine.now (context_of tcs.old)) (context_of tcs.old)
+        call.entry.ordinal call.entry.function.now (λ at. call.entry.frame.now)
+        (frame_below tcs.old.base tcs.old.top call.entry.function.now.frame_size))
+        (moment (P.state port.old) records.old tcs.old) (P.state port.new)) }
 {
     let Some(frame) = take_frame(&mut tcs.host_stack, call.function.frame_size) else {
         return refuse_call(tcs, port, call.ordinal, records);
@@ -147,37 +167,38 @@ fn call_framed<P: WordPort>(
     machine: &Machine,
     tcs: &mut Tcs,
     port: &mut P,
-    ordinal: u32,
-    function: &Function,
-    args: &[CallArg],
+    call: HostCall<'_>,
     records: &mut Records,
 ) -> Result<(), RunFull>
     requires machine { IsPlainMachine machine.now }
     requires stack { tcs.old.stack ≡ [] }
-    requires stack_in { (host_start ≤ tcs.old.base) × (tcs.old.top ≤ host_start + machine.now.script.settings.host) }
+    requires stack_in { HasStackInHost machine.now tcs.old }
     requires port { IsPortOf machine.now (P.state port.old) }
-    requires known { slice_get machine.now.interface.ecalls ordinal ≡ Some function.now }
-    requires plain { IsPlainFunction function.now }
-    requires args { AreArguments function.now.params args.now }
-    requires framed { has_frame function.now ≡ true }
-    ensures ok { OnOk result ((made : List CallRecord)
-        × Runs (host_call machine.now (ecalls machine.now (context_of tcs.old)) (context_of tcs.old) 0 ordinal args.now) (moment (P.state port.old) records.old tcs.old) (moment (P.state port.new) records.new tcs.new) made
-        × (records.new ≡ with_records records.old made)
-        × (tcs.new ≡ record tcs.old { waits = tcs.new.waits })) }
-    ensures full { IfErr result (λ full. StopsAt full (host_call machine.now (ecalls machine.now (context_of tcs.old)) (context_of tcs.old) 0 ordinal args.now) (moment (P.state port.old) records.old tcs.old) (P.state port.new)) }
+    requires known { slice_get machine.now.interface.ecalls call.ordinal ≡ Some call.function.now }
+    requires plain { IsPlainFunction call.function.now }
+    requires args { AreArguments call.function.now.params call.args.now }
+    requires framed { has_frame call.function.now ≡ true }
+    ensures ok { OnOk result (MakesCalls
+        (host_call machine.now (ecalls machine.now (context_of tcs.old)) (context_of tcs.old) 0
+        call.entry.ordinal call.entry.args.now)
+        (P.state port.old) (P.state port.new) records.old records.new tcs.old tcs.new) }
+    ensures full { IfErr result (λ full. StopsAt full
+        (host_call machine.now (ecalls machine.now (context_of tcs.old)) (context_of tcs.old) 0
+        call.entry.ordinal call.entry.args.now)
+        (moment (P.state port.old) records.old tcs.old) (P.state port.new)) }
 {
     let mut lengths = [0u64; MAX_PARAMS];
-    let lengths = &mut lengths[..args.len()];
-    string_lengths(port, function, args, lengths)?;
+    let lengths = &mut lengths[..call.args.len()];
+    string_lengths(port, call.function, call.args, lengths)?;
     let mut frame = [0u8; MAX_FRAME];
-    let frame = &mut frame[..function.frame_size as usize];
-    fill_frame(function, args, lengths, frame);
-    let call = FramedCall {
-        ordinal,
-        function,
+    let frame = &mut frame[..call.function.frame_size as usize];
+    fill_frame(call.function, call.args, lengths, frame);
+    let framed = FramedCall {
+        ordinal: call.ordinal,
+        function: call.function,
         frame,
     };
-    call_on_stack(machine, tcs, port, call, records)
+    call_on_stack(machine, tcs, port, framed, records)
 }
 
 /// A call by the host of one of the ECALLs, which may have no frame.
@@ -191,20 +212,26 @@ fn call<P: WordPort>(
 ) -> Result<(), RunFull>
     requires machine { IsPlainMachine machine.now }
     requires stack { tcs.old.stack ≡ [] }
-    requires stack_in { (host_start ≤ tcs.old.base) × (tcs.old.top ≤ host_start + machine.now.script.settings.host) }
+    requires stack_in { HasStackInHost machine.now tcs.old }
     requires port { IsPortOf machine.now (P.state port.old) }
     requires act { IsPlainCall machine.now.interface (HostAct.Call ordinal args.now) }
-    ensures ok { OnOk result ((made : List CallRecord)
-        × Runs (host_call machine.now (ecalls machine.now (context_of tcs.old)) (context_of tcs.old) 0 ordinal args.now) (moment (P.state port.old) records.old tcs.old) (moment (P.state port.new) records.new tcs.new) made
-        × (records.new ≡ with_records records.old made)
-        × (tcs.new ≡ record tcs.old { waits = tcs.new.waits })) }
-    ensures full { IfErr result (λ full. StopsAt full (host_call machine.now (ecalls machine.now (context_of tcs.old)) (context_of tcs.old) 0 ordinal args.now) (moment (P.state port.old) records.old tcs.old) (P.state port.new)) }
+    ensures ok { OnOk result (MakesCalls
+        (host_call machine.now (ecalls machine.now (context_of tcs.old)) (context_of tcs.old) 0 ordinal args.now)
+        (P.state port.old) (P.state port.new) records.old records.new tcs.old tcs.new) }
+    ensures full { IfErr result (λ full. StopsAt full
+        (host_call machine.now (ecalls machine.now (context_of tcs.old)) (context_of tcs.old) 0 ordinal args.now)
+        (moment (P.state port.old) records.old tcs.old) (P.state port.new)) }
 {
     let Some(function) = machine.interface.ecalls.get(ordinal as usize) else {
         unreachable!();
     };
     if function.has_frame() {
-        return call_framed(machine, tcs, port, ordinal, function, args, records);
+        let call = HostCall {
+            ordinal,
+            function,
+            args,
+        };
+        return call_framed(machine, tcs, port, call, records);
     }
     ecall(machine, tcs, port, ordinal, 0, Way::Ordinary, records)?;
     Ok(())
@@ -222,11 +249,15 @@ pub fn run_thread<P: WordPort>(
 ) -> Result<(), RunFull>
     requires machine { IsPlainMachine machine.now }
     requires stack { tcs.old.stack ≡ [] }
-    requires stack_in { (host_start ≤ tcs.old.base) × (tcs.old.top ≤ host_start + machine.now.script.settings.host) }
+    requires stack_in { HasStackInHost machine.now tcs.old }
     requires port { IsPortOf machine.now (P.state port.old) }
     requires acts { All (IsPlainCall machine.now.interface) acts.now }
-    ensures ok { OnOk result ((out : Outcome) × Runs (thread machine.now (context_of tcs.old) acts.now) (moment (P.state port.old) records.old tcs.old) (moment (P.state port.new) records.new tcs.new) out × (records.new ≡ with_records records.old out.records) × (tcs.new ≡ record tcs.old { waits = tcs.new.waits })) }
-    ensures full { IfErr result (λ full. StopsAt full (thread machine.now (context_of tcs.old) acts.now) (moment (P.state port.old) records.old tcs.old) (P.state port.new)) }
+    ensures ok { OnOk result ((out : Outcome) × Runs (thread machine.now (context_of tcs.old) acts.now)
+        (moment (P.state port.old) records.old tcs.old) (moment (P.state port.new) records.new tcs.new) out
+        × (records.new ≡ with_records records.old out.records)
+        × (tcs.new ≡ record tcs.old { waits = tcs.new.waits })) }
+    ensures full { IfErr result (λ full. StopsAt full (thread machine.now (context_of tcs.old) acts.now)
+        (moment (P.state port.old) records.old tcs.old) (P.state port.new)) }
 {
     for act in acts {
         let HostAct::Call { ordinal, args } = act else {

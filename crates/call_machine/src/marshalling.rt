@@ -1,15 +1,13 @@
 //! The copies of an ECALL's parameters into the enclave, and back.
 
-ghost use Rattle.std.specs.Prelude.{ℕ, List, ◌≡◌, ◌≤◌, length, zip, Option, Ok, Err, IfOk, IfErr, OnOk, IsTrue};
-ghost use Rattle.sgx_base.specs.Rows.{first_row, unless_refused};
+ghost use Rattle.std.specs.Prelude.{ℕ, List, ◌≡◌, ◌≤◌, length, zip, Option, Err, IfOk, IfErr, OnOk};
 ghost use Rattle.edl_interface.specs.Parameters.{marshalled};
-ghost use Rattle.word_port.specs.Runs.{Makes, StopsFull};
-ghost use Rattle.word_port.specs.declared.RunFull.TheVariants.{Steps};
+ghost use Rattle.word_port.specs.Runs.{Makes};
 ghost use Rattle.enclave_memory.specs.Memory.{room_of};
-ghost use Rattle.call_copy.specs.Stops.{MatchStop};
+ghost use Rattle.call_copy.specs.Stops.{IsCutShort, MatchStop};
 ghost use Rattle.call_machine.specs.Ecall.{shape_of as shape_in, copies_in, copies_out};
 ghost use Rattle.call_machine.specs.Entry.{IsPlaced, IsCopied, AreCopied, AreCopiesOf, HasBlock, HasBlocks, HasGrown, IsBack, copy_of, copy_back};
-ghost use Rattle.call_machine.specs.Refusal.{field_rows};
+ghost use Rattle.call_machine.specs.Refusal.{AreAllowed};
 
 use arrayvec::ArrayVec;
 use call_copy::{CopyStop, Shape, copy_in, copy_out};
@@ -53,10 +51,13 @@ fn copy_param<P: WordPort>(
     arena: &mut Arena,
 ) -> Result<Option<Block>, CopyStop>
     requires { IsPlaced (P.state port.old).host function.now fields.now param.now }
-    ensures ok { IfOk result (λ block. IsCopied function.now fields.now param.now arena.old arena.new (P.state port.old) (P.state port.new) block) }
+    ensures ok { IfOk result (IsCopied function.now fields.now param.now
+        arena.old arena.new (P.state port.old) (P.state port.new)) }
     ensures err { IfErr result (λ stop. MatchStop stop
-        (λ status. Makes (copy_of function.now fields.now (room_of arena.old) param.now) (P.state port.old) (P.state port.new) (Err status) × (arena.new ≡ arena.old))
-        (λ full. (full ≡ Steps) × StopsFull (copy_of function.now fields.now (room_of arena.old) param.now) (P.state port.old) (P.state port.new))) }
+        (λ status. Makes (copy_of function.now fields.now (room_of arena.old) param.now)
+        (P.state port.old) (P.state port.new) (Err status) × (arena.new ≡ arena.old))
+        (IsCutShort (copy_of function.now fields.now (room_of arena.old) param.now)
+        (P.state port.old) (P.state port.new))) }
 {
     let Some(length) = function.copied_length(fields, param) else {
         unreachable!();
@@ -81,12 +82,15 @@ pub(crate) fn copy_params<P: WordPort>(
     arena: &mut Arena,
 ) -> Result<Blocks, CopyStop>
     requires few { length function.now.params ≤ 64 }
-    requires allowed { unless_refused (first_row (field_rows (P.state port.old).host function.now fields.now)) ≡ Ok tt }
-    ensures ok { IfOk result (λ blocks. AreCopied function.now fields.now arena.old arena.new (P.state port.old) (P.state port.new) blocks.items) }
+    requires allowed { AreAllowed (P.state port.old).host function.now fields.now }
+    ensures ok { IfOk result (λ blocks. AreCopied function.now fields.now
+        arena.old arena.new (P.state port.old) (P.state port.new) blocks.items) }
     ensures grown { OnOk result (HasGrown arena.old arena.new) }
     ensures err { IfErr result (λ stop. MatchStop stop
-        (λ status. Makes (copies_in function.now fields.now (room_of arena.old) (marshalled function.now)) (P.state port.old) (P.state port.new) (Err status) × HasGrown arena.old arena.new)
-        (λ full. (full ≡ Steps) × StopsFull (copies_in function.now fields.now (room_of arena.old) (marshalled function.now)) (P.state port.old) (P.state port.new))) }
+        (λ status. Makes (copies_in function.now fields.now (room_of arena.old) (marshalled function.now))
+        (P.state port.old) (P.state port.new) (Err status) × HasGrown arena.old arena.new)
+        (IsCutShort (copies_in function.now fields.now (room_of arena.old) (marshalled function.now))
+        (P.state port.old) (P.state port.new))) }
 {
     let mut blocks = ArrayVec::new();
     for param in function.params.as_slice() {
@@ -108,9 +112,12 @@ fn put_param<P: WordPort>(
     arena: &Arena,
     block: Option<Block>,
 ) -> Result<(), RunFull>
-    requires { (bytes : Option (List ℕ)) × HasBlock arena.now block bytes × IsBack (P.state port.old).host fields.now param.now bytes }
-    ensures ok { (bytes : Option (List ℕ)) → HasBlock arena.now block bytes → OnOk result (Makes (copy_back fields.now param.now bytes) (P.state port.old) (P.state port.new) tt) }
-    ensures full { (bytes : Option (List ℕ)) → HasBlock arena.now block bytes → IfErr result (λ full. (full ≡ Steps) × StopsFull (copy_back fields.now param.now bytes) (P.state port.old) (P.state port.new)) }
+    requires { (bytes : Option (List ℕ)) × HasBlock arena.now block bytes
+        × IsBack (P.state port.old).host fields.now param.now bytes }
+    ensures ok { (bytes : Option (List ℕ)) → HasBlock arena.now block bytes
+        → OnOk result (Makes (copy_back fields.now param.now bytes) (P.state port.old) (P.state port.new) tt) }
+    ensures full { (bytes : Option (List ℕ)) → HasBlock arena.now block bytes
+        → IfErr result (IsCutShort (copy_back fields.now param.now bytes) (P.state port.old) (P.state port.new)) }
 {
     let Some(block) = block else {
         return Ok(());
@@ -131,12 +138,17 @@ pub(crate) fn put_params<P: WordPort>(
     blocks: &[Option<Block>],
 ) -> Result<(), RunFull>
     requires few { length function.now.params ≤ 64 }
-    requires allowed { unless_refused (first_row (field_rows (P.state port.old).host function.now fields.now)) ≡ Ok tt }
-    requires copies { (bytes : List (Option (List ℕ))) × HasBlocks arena.now blocks.now bytes × AreCopiesOf function.now fields.now (marshalled function.now) bytes }
-    ensures ok { (bytes : List (Option (List ℕ))) → HasBlocks arena.now blocks.now bytes → AreCopiesOf function.now fields.now (marshalled function.now) bytes
-        → OnOk result (Makes (copies_out fields.now (zip (marshalled function.now) bytes)) (P.state port.old) (P.state port.new) tt) }
-    ensures full { (bytes : List (Option (List ℕ))) → HasBlocks arena.now blocks.now bytes → AreCopiesOf function.now fields.now (marshalled function.now) bytes
-        → IfErr result (λ full. (full ≡ Steps) × StopsFull (copies_out fields.now (zip (marshalled function.now) bytes)) (P.state port.old) (P.state port.new)) }
+    requires allowed { AreAllowed (P.state port.old).host function.now fields.now }
+    requires copies { (bytes : List (Option (List ℕ))) × HasBlocks arena.now blocks.now bytes
+        × AreCopiesOf function.now fields.now (marshalled function.now) bytes }
+    ensures ok { (bytes : List (Option (List ℕ))) → HasBlocks arena.now blocks.now bytes
+        → AreCopiesOf function.now fields.now (marshalled function.now) bytes
+        → OnOk result (Makes (copies_out fields.now (zip (marshalled function.now) bytes))
+        (P.state port.old) (P.state port.new) tt) }
+    ensures full { (bytes : List (Option (List ℕ))) → HasBlocks arena.now blocks.now bytes
+        → AreCopiesOf function.now fields.now (marshalled function.now) bytes
+        → IfErr result (IsCutShort (copies_out fields.now (zip (marshalled function.now) bytes))
+        (P.state port.old) (P.state port.new)) }
 {
     let mut place = 0;
     for param in function.params.as_slice() {

@@ -67,7 +67,8 @@ pub fn first_tcs(alloc: Global, settings: Settings) -> Result<Tcs, AllocError>
 /// The machine's words, with a log that takes so many steps.
 pub fn first_port(alloc: Global, machine: &Machine, limit: u32) -> Result<PlainWords, AllocError>
     requires { IsPlainMachine machine.now }
-    ensures { IfOk result (λ port. port ≡ opened machine.now.script.words machine.now.script.settings.host machine.now.script.races limit) }
+    ensures { IfOk result (λ port. let script = machine.now.script in
+        port ≡ opened script.words script.settings.host script.races limit) }
 {
     let script = &machine.script;
     PlainWords::new(

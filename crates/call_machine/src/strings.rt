@@ -1,61 +1,46 @@
 //! The lengths of the strings that the host passes.
 
-ghost use Rattle.std.specs.Prelude.{ℕ, List, ◌≡◌, ◌≤◌, ◌+◌, length, zip, All, IfOk, IfErr, OnOk, true};
-ghost use Rattle.sgx_base.specs.Ranges.{host_start, is_mapped};
+ghost use Rattle.std.specs.Prelude.{◌≡◌, ◌≤◌, length, zip, All, IfOk, IfErr, OnOk, true};
+ghost use Rattle.sgx_base.specs.Ranges.{is_mapped};
 ghost use Rattle.sgx_base.specs.Texts.{is_zero_unit};
 ghost use Rattle.word_port.specs.Accesses.{loads};
 ghost use Rattle.word_port.specs.Runs.{Makes, StopsFull};
 ghost use Rattle.word_port.specs.declared.Side.TheVariants.{Host};
 ghost use Rattle.word_port.specs.declared.RunFull.TheVariants.{Steps};
+ghost use Rattle.call_copy.specs.Stops.{IsCutShort};
 ghost use Rattle.edl_interface.specs.Runnable.{IsPassed};
 ghost use Rattle.call_machine.specs.Calls.{IsUnitSeen, string_loads, string_length as string_length_of, string_lengths as string_lengths_of};
 ghost use Rattle.call_script.specs.PlainScript.{AreArguments};
 
 use crate::arguments::address_of;
+use call_copy::load_bytes;
 use call_script::CallArg;
 use edl_interface::{Class, Function};
-use sgx_base::{HOST_START, mapped};
+use sgx_base::mapped;
 use word_port::{RunFull, Side, WordPort};
 
-/// Loads the bytes from an address on.
-#[tactic(auto, using(word_port::proofs::AccessLaws::access_laws))]
-pub(crate) fn load_bytes<P: WordPort>(port: &mut P, at: u64, out: &mut [u64]) -> Result<(), RunFull>
-    requires from { host_start ≤ at }
-    requires upto { at + length out.old ≤ host_start + (P.state port.old).host }
-    ensures ok { OnOk result (Makes (loads Host at (length out.old)) (P.state port.old) (P.state port.new) out.new) }
-    ensures full { IfErr result (λ full. (full ≡ Steps) × StopsFull (loads Host at (length out.old)) (P.state port.old) (P.state port.new)) }
-{
-    for i in 0..out.len() {
-        if port.spare() == 0 {
-            return Err(RunFull::Steps);
-        }
-        let _host = port.host();
-        out[i] = port.load(Side::Host, (at - HOST_START) as u32 + i as u32);
-    }
-    Ok(())
-}
-
 /// Whether every byte is 0.
-fn is_zero(bytes: &[u64]) -> bool
+fn is_zero(bytes: &[u8]) -> bool
     ensures { result ≡ is_zero_unit bytes.now }
 {
     bytes.iter().all(|byte| *byte == 0)
 }
 
-/// Whether a string, whose units have 1 to 4 bytes, goes on at an address: host memory has a unit there, which is loaded,
-/// and it is not 0.
+/// Whether a string, whose units have 1 to 4 bytes, goes on at an address: host memory has a unit there, which is
+/// loaded, and it is not 0.
 fn goes_on<P: WordPort>(port: &mut P, at: u64, unit: u32) -> Result<bool, RunFull>
     requires some { 1 ≤ unit }
     requires few { unit ≤ 4 }
     ensures ok { IfOk result (IsUnitSeen (P.state port.old).host unit at (P.state port.old) (P.state port.new)) }
-    ensures full { IfErr result (λ full. (full ≡ Steps) × (is_mapped (P.state port.old).host at unit ≡ true) × StopsFull (loads Host at unit) (P.state port.old) (P.state port.new)) }
+    ensures full { IfErr result (λ full. (full ≡ Steps) × (is_mapped (P.state port.old).host at unit ≡ true)
+        × StopsFull (loads Host at unit) (P.state port.old) (P.state port.new)) }
 {
     if !mapped(port.host(), at, u64::from(unit)) {
         return Ok(false);
     }
-    let mut bytes = [0u64; 4];
+    let mut bytes = [0; 4];
     let bytes = &mut bytes[..unit as usize];
-    load_bytes(port, at, bytes)?;
+    load_bytes(port, Side::Host, at, bytes)?;
     Ok(!is_zero(bytes))
 }
 
@@ -64,8 +49,10 @@ fn goes_on<P: WordPort>(port: &mut P, at: u64, unit: u32) -> Result<bool, RunFul
 fn string_length<P: WordPort>(port: &mut P, at: u64, unit: u32) -> Result<u64, RunFull>
     requires some { 1 ≤ unit }
     requires few { unit ≤ 4 }
-    ensures ok { IfOk result (Makes (string_loads (P.state port.old).host (P.state port.old).host unit at) (P.state port.old) (P.state port.new)) }
-    ensures full { IfErr result (λ full. (full ≡ Steps) × StopsFull (string_loads (P.state port.old).host (P.state port.old).host unit at) (P.state port.old) (P.state port.new)) }
+    ensures ok { let host = (P.state port.old).host in
+        IfOk result (Makes (string_loads host host unit at) (P.state port.old) (P.state port.new)) }
+    ensures full { let host = (P.state port.old).host in
+        IfErr result (IsCutShort (string_loads host host unit at) (P.state port.old) (P.state port.new)) }
 {
     let _host = port.host();
     let mut next = at;
@@ -78,8 +65,10 @@ fn string_length<P: WordPort>(port: &mut P, at: u64, unit: u32) -> Result<u64, R
 /// The length of an argument that is a string and not null, and 0 of any other.
 fn argument_length<P: WordPort>(port: &mut P, class: &Class, arg: &CallArg) -> Result<u64, RunFull>
     requires { IsPassed class.now }
-    ensures ok { IfOk result (Makes (string_length_of (P.state port.old).host 0 class.now arg.now) (P.state port.old) (P.state port.new)) }
-    ensures full { IfErr result (λ full. (full ≡ Steps) × StopsFull (string_length_of (P.state port.old).host 0 class.now arg.now) (P.state port.old) (P.state port.new)) }
+    ensures ok { IfOk result (Makes (string_length_of (P.state port.old).host 0 class.now arg.now)
+        (P.state port.old) (P.state port.new)) }
+    ensures full { IfErr result (IsCutShort (string_length_of (P.state port.old).host 0 class.now arg.now)
+        (P.state port.old) (P.state port.new)) }
 {
     let address = address_of(arg);
     if class.is_text() && address != 0 {
@@ -99,8 +88,12 @@ pub(crate) fn string_lengths<P: WordPort>(
     requires classes { All (λ p. IsPassed p.class) function.now.params }
     requires args { AreArguments function.now.params args.now }
     requires room { length lengths.old ≡ length args.now }
-    ensures ok { OnOk result (Makes (string_lengths_of (P.state port.old).host 0 (zip function.now.params args.now)) (P.state port.old) (P.state port.new) lengths.new) }
-    ensures full { IfErr result (λ full. (full ≡ Steps) × StopsFull (string_lengths_of (P.state port.old).host 0 (zip function.now.params args.now)) (P.state port.old) (P.state port.new)) }
+    ensures ok { OnOk result
+        (Makes (string_lengths_of (P.state port.old).host 0 (zip function.now.params args.now))
+        (P.state port.old) (P.state port.new) lengths.new) }
+    ensures full { IfErr result
+        (IsCutShort (string_lengths_of (P.state port.old).host 0 (zip function.now.params args.now))
+        (P.state port.old) (P.state port.new)) }
 {
     let params = function.params.as_slice();
     for i in 0..args.len() {

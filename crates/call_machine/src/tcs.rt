@@ -26,7 +26,14 @@ impl Model for Tcs {
 
     ghost Value = { TcsState };
 
-    ghost view = { λ t. record { stack = t.stack; base = t.host_stack.base; top = t.host_stack.top; frames = t.frames; arena = t.arena; waits = t.waits } };
+    ghost view = { λ t. record {
+      stack = t.stack;
+      base = t.host_stack.base;
+      top = t.host_stack.top;
+      frames = t.frames;
+      arena = t.arena;
+      waits = t.waits;
+    } };
 
     ghost invariant = { λ t. (t.frames.size ≡ 16384) × (taken_by t.frames.blocks ≤ 1024 * length t.stack) };
 }
@@ -46,7 +53,14 @@ impl Tcs {
         requires whole { arena % 16 ≡ 0 }
         requires least { 4096 ≤ arena }
         requires most { arena ≤ 65536 }
-        ensures { IfOk result (λ tcs. tcs ≡ record { stack = []; base = base; top = top; frames = record { size = 16384; blocks = [] }; arena = record { size = arena; blocks = [] }; waits = waits }) }
+        ensures { IfOk result (λ tcs. tcs ≡ record {
+          stack = [];
+          base = base;
+          top = top;
+          waits = waits;
+          frames = record { size = 16384; blocks = [] };
+          arena = record { size = arena; blocks = [] };
+        }) }
     {
         let frames = Arena::new(alloc, 16384)?;
         let arena = Arena::new(alloc, arena)?;

@@ -8,6 +8,6 @@ use Rattle.call_machine.proofs.entry.load_and_answer.Goals as goal
 
 pub answer-requires-clause-mapped : goal.answer-requires-clause-mapped
 answer-requires-clause-mapped g c =
-    subst (λ h. IsTrue (is_mapped h c.args.frame (return_size c.args.function.now))) (sym (leads_host _ _ _ _ c.in_ok-fetch_range.ensures.ok.1))
-    (fewer_mapped _ c.args.frame c.args.function.now.frame_size (return_size c.args.function.now)
-    (function_is c.args.machine.now c.requires.machine c.args.ordinal c.args.function.now c.requires.found).runnable.return_fits c.requires.mapped)
+    subst (λ h. IsTrue (is_mapped h c.args.call.frame (return_size c.args.call.function.now))) (sym (leads_host _ _ _ _ c.in_ok-fetch_range.ensures.ok.1))
+    (fewer_mapped _ c.args.call.frame c.args.call.function.now.frame_size (return_size c.args.call.function.now)
+    (function_is c.args.call.machine.now c.requires.machine c.args.call.ordinal c.args.call.function.now c.requires.found).runnable.return_fits c.requires.mapped)

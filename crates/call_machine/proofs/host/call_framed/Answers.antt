@@ -9,18 +9,18 @@ pub returns-in_err-string_lengths-clause-full : goal.returns-in_err-string_lengt
 returns-in_err-string_lengths-clause-full g c =
     let p = err_from_is_err_and c.from_residual.result c.from_residual.ensures.1 in
     rw (p.1, p.2, c.in_err-string_lengths.ensures.full.0)
-    (finding_cut c.args.machine.now c.args.function.now c.args.ordinal c.args.args.now c.requires.known c.requires.framed c.args.tcs.now _ c.requires.port.host_is _ _ _ c.in_err-string_lengths.ensures.full.1)
+    (finding_cut c.args.machine.now c.args.call.function.now c.args.call.ordinal c.args.call.args.now c.requires.known c.requires.framed c.args.tcs.now _ c.requires.port.host_is _ _ _ c.in_err-string_lengths.ensures.full.1)
 
 pub returns-clause-ok : goal.returns-clause-ok
 returns-clause-ok g c =
     on_ok_map c.call_on_stack.result _ _
-    (found_made c.args.machine.now c.args.function.now c.args.ordinal c.args.args.now c.requires.known c.requires.framed c.args.tcs.now _ c.requires.port.host_is _ _ _ _ _ c.in_ok-string_lengths.ensures.ok c.fill_frame.ensures _ _ _)
+    (found_made c.args.machine.now c.args.call.function.now c.args.call.ordinal c.args.call.args.now c.requires.known c.requires.framed c.args.tcs.now _ c.requires.port.host_is _ _ _ _ _ c.in_ok-string_lengths.ensures.ok c.fill_frame.ensures _ _ _)
     c.call_on_stack.ensures.ok
 
 pub returns-clause-full : goal.returns-clause-full
 returns-clause-full g c =
     if_err_map c.call_on_stack.result _ _
-    (λ full. found_cut c.args.machine.now c.args.function.now c.args.ordinal c.args.args.now c.requires.known c.requires.framed c.args.tcs.now _ c.requires.port.host_is _ _ _ _ _ c.in_ok-string_lengths.ensures.ok c.fill_frame.ensures full _)
+    (λ full. found_cut c.args.machine.now c.args.call.function.now c.args.call.ordinal c.args.call.args.now c.requires.known c.requires.framed c.args.tcs.now _ c.requires.port.host_is _ _ _ _ _ c.in_ok-string_lengths.ensures.ok c.fill_frame.ensures full _)
     c.call_on_stack.ensures.full
 
 few_arguments : (n m : ℕ) → n ≡ m → m ≤ 64 → n ≤ 64
