@@ -16,7 +16,8 @@ use Rattle.call_machine.specs.declared.Machine.{Machine}
 use Rattle.call_machine.specs.Context.{Context}
 use Rattle.call_laws.specs.Transfers.{loads_of, AreFirstBytes}
 use Rattle.call_laws.specs.Copying.{AreCopiedIn}
-use Rattle.call_laws.specs.Refusing.{IsEnclaveLoad, IsRefusedParam, IsRefusedCopying, IsRefusedLoaded, IsRefusedAfterFrame, IsRefusedFunction, IsRefusedRun}
+use Rattle.call_machine.specs.Entry.{IsEnclaveLoad}
+use Rattle.call_laws.specs.Refusing.{IsRefusedParam, IsRefusedCopying, IsRefusedLoaded, IsRefusedAfterFrame, IsRefusedFunction, IsRefusedRun}
 
 -- each step is a load by the enclave
 abbrev pub AreLoads : List Event → Type 0

@@ -150,6 +150,7 @@ undisturbed_run m ocalls cx ordinal address words events done run legal =
       frame_there = frame_there;
       copies = run.copies;
       copies_there = copies_there;
+      room_left = run.room_left;
       running = run.running;
       finished = run.finished;
       body_runs = run.body_runs;
@@ -180,7 +181,7 @@ returned_run m ocalls cx (on_cell q next) events done quiet h = absurd quiet
 returned_run m ocalls cx (on_ocall q next) events done quiet h = absurd quiet
 
 pub direct_call : (m : Machine) (ocalls : Ocalls) (cx : Context) (ordinal address : ℕ) (words : List ℕ) (events : List Event) → IsQuiet m ordinal
-    → IsUndisturbedRun m ocalls cx ordinal address words events → IsDirectCall m ordinal address words events
+    → IsUndisturbedRun m ocalls cx ordinal address words events → IsDirectCall m cx ordinal address words events
 direct_call m ocalls cx ordinal address words events quiet run =
     let body : Execution = body_of m ordinal run.function run.frame run.copies in
     let end : IsReturned body run.running run.finished =
@@ -194,6 +195,7 @@ direct_call m ocalls cx ordinal address words events quiet run =
       frame_there = run.frame_there;
       copies = run.copies;
       copies_there = run.copies_there;
+      room_left = run.room_left;
       value = end.value;
       blocks = end.blocks;
       body_is = end.body_is;

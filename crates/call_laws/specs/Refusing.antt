@@ -6,9 +6,6 @@ use Rattle.edl_interface.specs.declared.Function.{Function}
 use Rattle.edl_interface.specs.declared.Param.{Param}
 use Rattle.edl_interface.specs.Parameters.{marshalled, is_in, address_in}
 use Rattle.edl_interface.specs.Lengths.{length_in, copied_length}
-use Rattle.word_port.specs.declared.Step.{Step}
-use Rattle.word_port.specs.declared.Side.TheVariants.{Enclave}
-use Rattle.word_port.specs.declared.Kind.TheVariants.{Load}
 use Rattle.word_port.specs.Events.{Event}
 use Rattle.bridge_program.specs.Entry.{entry_rows}
 use Rattle.call_copy.specs.Copies.{block_rows, checked_bytes}
@@ -73,7 +70,3 @@ pub record IsRefusedFunction (m : Machine) (cx : Context) (ordinal address : ℕ
 abbrev pub IsRefusedRun : Machine → Context → ℕ → ℕ → List Event → Status → Type 0
 IsRefusedRun m cx ordinal address events status =
     ((first_row (entry_rows m.interface cx.stack ordinal) ≡ Some status) × (events ≡ [])) ⊎ IsRefusedFunction m cx ordinal address events status
-
--- the step is a load by the enclave
-abbrev pub IsEnclaveLoad : Step → Type 0
-IsEnclaveLoad s = (s.side ≡ Enclave) × (s.kind ≡ Load)

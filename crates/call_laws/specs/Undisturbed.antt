@@ -14,6 +14,7 @@ use Rattle.call_copy.specs.Copies.{checked_bytes, bytes_back}
 use Rattle.call_machine.specs.declared.Machine.{Machine}
 use Rattle.call_machine.specs.Context.{Context, context_in_ecall}
 use Rattle.call_machine.specs.Ecall.{Ocalls, Copies, Finished, shape_of, interpret, body_of}
+use Rattle.call_laws.specs.Copying.{room_after}
 
 -- the steps of these events are a legal history with no race, from these words
 abbrev pub AreLegal : List ℕ → List Event → Type 0
@@ -68,7 +69,8 @@ with_blocks frame ((p, Some block) ∷ rest) words =
 abbrev pub with_answer : Function → ℕ → List ℕ → ℕ → List (Option (List ℕ)) → List ℕ → List ℕ
 with_answer f address frame value blocks words = with_blocks frame (zip (marshalled f) blocks) (written words address (low_bytes (return_size f) value))
 
--- its frame and its copies are bytes of the words that it began with, its body begins with these words, and in the end they are those after the body with its answer written
+-- its frame and its copies are bytes of the words that it began with, its body begins with these words and with the room
+-- that the copies leave, and in the end the words are those after the body with its answer written
 pub record IsUndisturbedRun (m : Machine) (ocalls : Ocalls) (cx : Context) (ordinal address : ℕ) (words : List ℕ) (events : List Event) : Type 0 where
   pub function : Function
   pub found : slice_get m.interface.ecalls ordinal ≡ Some function
@@ -77,6 +79,7 @@ pub record IsUndisturbedRun (m : Machine) (ocalls : Ocalls) (cx : Context) (ordi
   pub frame_there : AreAt words address frame
   pub copies : Copies
   pub copies_there : AreCopiesOf words function frame (marshalled function) copies.blocks
+  pub room_left : copies.room ≡ room_after cx.room copies.blocks
   pub running : List Event
   pub finished : Finished
   pub body_runs : IsRun (interpret m ocalls (context_in_ecall cx ordinal copies.room) (body_of m ordinal function frame copies)) running finished
@@ -92,8 +95,10 @@ AsksNothing _ = ⊥
 abbrev pub IsQuiet : Machine → ℕ → Type 0
 IsQuiet m ordinal = (f : Function) (frame : List ℕ) (copies : Copies) → AsksNothing (body_of m ordinal f frame copies)
 
--- as a direct call of a body that asks for nothing: its copies are bytes of the words, and the words in the end are the same ones with its answer written
-pub record IsDirectCall (m : Machine) (ordinal address : ℕ) (words : List ℕ) (events : List Event) : Type 0 where
+-- as a direct call of a body that asks for nothing: its copies are bytes of the words, it has the room that they leave,
+-- and the words in the end are the same ones with its answer written
+pub record IsDirectCall (m : Machine) (cx : Context) (ordinal address : ℕ)
+    (words : List ℕ) (events : List Event) : Type 0 where
   pub function : Function
   pub found : slice_get m.interface.ecalls ordinal ≡ Some function
   pub frame : List ℕ
@@ -101,6 +106,7 @@ pub record IsDirectCall (m : Machine) (ordinal address : ℕ) (words : List ℕ)
   pub frame_there : AreAt words address frame
   pub copies : Copies
   pub copies_there : AreCopiesOf words function frame (marshalled function) copies.blocks
+  pub room_left : copies.room ≡ room_after cx.room copies.blocks
   pub value : ℕ
   pub blocks : List (Option (List ℕ))
   pub body_is : body_of m ordinal function frame copies ≡ returned value blocks

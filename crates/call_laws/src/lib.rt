@@ -18,22 +18,34 @@ ghost use Rattle.call_laws.specs.Undisturbed.{AreLegal, IsUndisturbedRun, IsQuie
 /// and then stores its return and each `out` parameter that has a block. Every address and every length is of the
 /// frame's one copy. Events with these parts are such a run. OCALLs may do anything.
 pub fn answered_run_law()
-    ensures { (m : Machine) (ocalls : Ocalls) (cx : Context) (ordinal address : ℕ) (events : List Event) (done : Answered) → IsRun (entered m ocalls cx ordinal address) events (Ok done) ↔ IsAnsweredRun m ocalls cx ordinal address events done }
+    ensures { (m : Machine) (ocalls : Ocalls) (cx : Context) (ordinal address : ℕ)
+        (events : List Event) (done : Answered)
+        → IsRun (entered m ocalls cx ordinal address) events (Ok done)
+        ↔ IsAnsweredRun m ocalls cx ordinal address events done }
 {}
 
 /// The events of a refused entry are a beginning of such loads: none; or those of the frame, and then those of some
 /// first parameters, the last of which may be a string that ended before its length. The status is that of the first
 /// row that holds. Events with these parts are such a run.
 pub fn refused_run_law()
-    ensures { (m : Machine) (ocalls : Ocalls) (cx : Context) (ordinal address : ℕ) (events : List Event) (status : Status) → IsRun (entered m ocalls cx ordinal address) events (Err status) ↔ IsRefusedRun m cx ordinal address events status }
+    ensures { (m : Machine) (ocalls : Ocalls) (cx : Context) (ordinal address : ℕ)
+        (events : List Event) (status : Status)
+        → IsRun (entered m ocalls cx ordinal address) events (Err status)
+        ↔ IsRefusedRun m cx ordinal address events status }
 {}
 
 /// Where the steps of an answered entry are a legal history with no race between them, each `in` copy is the bytes of
-/// the words that it began with. For a body that asks for nothing the words afterwards are the same ones, with the
-/// return and then the `out` copies written.
+/// the words that it began with, and its body has the room that they leave. For a body that asks for nothing the words
+/// afterwards are the same ones, with the return and then the `out` copies written.
 pub fn no_races_law()
-    ensures copies { (m : Machine) (ocalls : Ocalls) (cx : Context) (ordinal address : ℕ) (words : List ℕ) (events : List Event) (done : Answered) → IsRun (entered m ocalls cx ordinal address) events (Ok done) → AreLegal words events → IsUndisturbedRun m ocalls cx ordinal address words events }
-    ensures direct { (m : Machine) (ocalls : Ocalls) (cx : Context) (ordinal address : ℕ) (words : List ℕ) (events : List Event) (done : Answered) → IsQuiet m ordinal → IsRun (entered m ocalls cx ordinal address) events (Ok done) → AreLegal words events → IsDirectCall m ordinal address words events }
+    ensures copies { (m : Machine) (ocalls : Ocalls) (cx : Context) (ordinal address : ℕ)
+        (words : List ℕ) (events : List Event) (done : Answered)
+        → IsRun (entered m ocalls cx ordinal address) events (Ok done) → AreLegal words events
+        → IsUndisturbedRun m ocalls cx ordinal address words events }
+    ensures direct { (m : Machine) (ocalls : Ocalls) (cx : Context) (ordinal address : ℕ)
+        (words : List ℕ) (events : List Event) (done : Answered) → IsQuiet m ordinal
+        → IsRun (entered m ocalls cx ordinal address) events (Ok done) → AreLegal words events
+        → IsDirectCall m cx ordinal address words events }
 {}
 
 /// The bodies of a machine that the engine runs ask for nothing.
