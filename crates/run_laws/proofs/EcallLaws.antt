@@ -27,7 +27,8 @@ use Rattle.call_machine.specs.Sound.{IsSoundBody}
 use Rattle.call_machine.specs.Ecall.{Ocalls, OcallOutcome, Answered, body_of, ecall_record, ecall_outcome, entered, ecall_by}
 use Rattle.call_laws.specs.Transfers.{loads_of}
 use Rattle.call_laws.specs.Answering.{IsAnsweredRun}
-use Rattle.call_laws.specs.Refusing.{IsEnclaveLoad, IsRefusedRun}
+use Rattle.call_machine.specs.Entry.{IsEnclaveLoad}
+use Rattle.call_laws.specs.Refusing.{IsRefusedRun}
 use Rattle.call_laws.proofs.Lengths.{OcallsKeepLengths}
 use Rattle.call_laws.specs.Within.{IsInAnswer}
 use Rattle.call_laws.proofs.EntryLaws.{EntryRun, entered_run}

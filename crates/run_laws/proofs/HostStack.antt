@@ -20,22 +20,25 @@ use Rattle.run_laws.proofs.InHost.{rows_fail}
 abbrev pub IsOnHost : ℕ → Context → Type 0
 IsOnHost host cx = (0x10000 ≤ cx.base) × (cx.top ≤ 0x10000 + host)
 
-below : (base top size a : ℕ) (b : Bool) → nat_lt ((top - size) / 16 * 16) base ≡ b → (if b then None else Some ((top - size) / 16 * 16)) ≡ Some a → 0x10000 ≤ base → (base ≤ a) × (a + size ≤ top)
-below base top size a true less e from = cc
-below base top size a false less e from =
+below : (base top size a : ℕ) (over under : Bool) → nat_lt top size ≡ over → nat_lt ((top - size) / 16 * 16) base ≡ under
+    → (if over || under then None else Some ((top - size) / 16 * 16)) ≡ Some a → (base ≤ a) × (a + size ≤ top)
+below base top size a true under over_is under_is e = cc
+below base top size a false true over_is under_is e = cc
+below base top size a false false over_is under_is e =
     let same : (top - size) / 16 * 16 ≡ a = cc in
-    let above : base ≤ (top - size) / 16 * 16 = ltb-false ((top - size) / 16 * 16) base less in
+    let fits : size ≤ top = ltb-false top size over_is in
+    let above : base ≤ (top - size) / 16 * 16 = ltb-false ((top - size) / 16 * 16) base under_is in
     let cut : (top - size) / 16 * 16 ≤ top - size = (le-div_iff_mul-le {k = 16} {x = (top - size) / 16} {y = top - size} (omega arith)).0 (omega arith) in
-    (omega (arith, same, above), omega (arith, same, above, cut, from))
+    (omega (arith, same, above), omega (arith, same, fits, cut))
 
 -- a frame that fits
-pub frame_fits : (base top size a : ℕ) → frame_below base top size ≡ Some a → 0x10000 ≤ base → (base ≤ a) × (a + size ≤ top)
-frame_fits base top size a e from = below base top size a (nat_lt ((top - size) / 16 * 16) base) refl e from
+pub frame_fits : (base top size a : ℕ) → frame_below base top size ≡ Some a → (base ≤ a) × (a + size ≤ top)
+frame_fits base top size a e = below base top size a (nat_lt top size) (nat_lt ((top - size) / 16 * 16) base) refl refl e
 
 -- the host stack with a frame on it
 pub with_frame : (host : ℕ) (cx : Context) (size a : ℕ) → IsOnHost host cx → frame_below cx.base cx.top size ≡ Some a → IsOnHost host (record cx { top = a })
 with_frame host cx size a on e =
-    let fits : (cx.base ≤ a) × (a + size ≤ cx.top) = frame_fits cx.base cx.top size a e on.0 in
+    let fits : (cx.base ≤ a) × (a + size ≤ cx.top) = frame_fits cx.base cx.top size a e in
     let end : a + size ≤ cx.top = fits.1 in
     let top : cx.top ≤ 0x10000 + host = on.1 in
     (on.0, omega (arith, end, top))
@@ -73,7 +76,7 @@ module _ (host : ℕ) (cx : Context) (on : IsOnHost host cx) (f : Function) (arg
   by_frame true is index (x, inside, e) =
       let found : (a : ℕ) × (frame_below cx.base cx.top (ocall_size f arguments) ≡ Some a) = frame_found is in
       let a : ℕ = found.0 in
-      let fits : (cx.base ≤ a) × (a + ocall_size f arguments ≤ cx.top) = frame_fits cx.base cx.top (ocall_size f arguments) a found.1 on.0 in
+      let fits : (cx.base ≤ a) × (a + ocall_size f arguments ≤ cx.top) = frame_fits cx.base cx.top (ocall_size f arguments) a found.1 in
       let at : ocall_frame cx f arguments ≡ a = frame_is true is a found.1 refl in
       let from : 0x10000 ≤ cx.base = on.0 in
       let upto : cx.top ≤ 0x10000 + host = on.1 in
@@ -97,7 +100,7 @@ module _ (host : ℕ) (cx : Context) (on : IsOnHost host cx) (f : Function) (arg
   on_by ordinal true is =
       let found : (a : ℕ) × (frame_below cx.base cx.top (ocall_size f arguments) ≡ Some a) = frame_found is in
       let a : ℕ = found.0 in
-      let fits : (cx.base ≤ a) × (a + ocall_size f arguments ≤ cx.top) = frame_fits cx.base cx.top (ocall_size f arguments) a found.1 on.0 in
+      let fits : (cx.base ≤ a) × (a + ocall_size f arguments ≤ cx.top) = frame_fits cx.base cx.top (ocall_size f arguments) a found.1 in
       let at : ocall_frame cx f arguments ≡ a = frame_is true is a found.1 refl in
       let upto : cx.top ≤ 0x10000 + host = on.1 in
       let end : a + ocall_size f arguments ≤ cx.top = fits.1 in

@@ -16,3 +16,4 @@ pub mod ReplyLaws
 pub mod Runs
 pub mod Stored
 pub mod Triples
+pub mod WholeOrCut

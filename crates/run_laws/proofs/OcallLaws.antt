@@ -29,7 +29,7 @@ use Rattle.call_machine.specs.Result.{Outcome, is_success, go_on_if_ok}
 use Rattle.call_machine.specs.Ecall.{OcallOutcome}
 use Rattle.call_machine.specs.Ocall.{Handlers, ocall_rows, ocall_frame, ocall_pool, HostSide, host_side, unless_taken, host_run, handler_context, OcallDone, no_reply, answer_loads, unrefused_ocall, ocall_or_refusal, ocall_record, ocall_outcome, ocall_by}
 use Rattle.call_laws.specs.Transfers.{AreStores}
-use Rattle.call_laws.specs.Refusing.{IsEnclaveLoad}
+use Rattle.call_machine.specs.Entry.{IsEnclaveLoad}
 use Rattle.call_laws.specs.Within.{IsWordIn}
 use Rattle.call_laws.proofs.TransferLaws.{stores_run}
 use Rattle.call_laws.proofs.WithinLaws.{stores_within}

@@ -17,7 +17,8 @@ use Rattle.call_machine.specs.Ecall.{Copies, body_of}
 use Rattle.call_laws.specs.Transfers.{loads_of, AreStores}
 use Rattle.call_laws.specs.Copying.{room_after, AreCopiedIn}
 use Rattle.call_laws.specs.Answering.{ArePutBack}
-use Rattle.call_laws.specs.Refusing.{IsEnclaveLoad, IsRefusedRun}
+use Rattle.call_machine.specs.Entry.{IsEnclaveLoad}
+use Rattle.call_laws.specs.Refusing.{IsRefusedRun}
 use Rattle.run_laws.specs.Places.{StandAt}
 use Rattle.run_laws.specs.Calls.{Call}
 use Rattle.run_laws.specs.Bodies.{IsCarriedOut}

@@ -1,20 +1,24 @@
 //! Laws of whole runs, as contracts: what every run of a machine's first thread keeps, whatever the words answer.
 #![tactic(auto)]
 
-ghost use Rattle.std.specs.Prelude.{ℕ, List};
+ghost use Rattle.std.specs.Prelude.{ℕ, ◌≡◌, List};
+ghost use Rattle.word_port.specs.declared.RunFull.{RunFull};
 ghost use Rattle.word_port.specs.Limits.{Progress};
 ghost use Rattle.word_port.specs.Runs.{Runs};
 ghost use Rattle.call_machine.specs.declared.Machine.{Machine};
 ghost use Rattle.call_machine.specs.Result.{Outcome};
 ghost use Rattle.call_machine.specs.Sound.{IsSoundMachine};
-ghost use Rattle.call_machine.specs.Reported.{IsReportOf, beginning, first_thread};
+ghost use Rattle.call_machine.specs.Reported.{IsReportOf, IsCutBy, beginning, first_thread};
 ghost use Rattle.run_laws.specs.Protected.{IsProtectedRun};
 ghost use Rattle.run_laws.specs.Examples.{Examples};
 ghost use Rattle.run_laws.specs.Reports.{IsProtectedReport};
 
-/// Every run of a machine's first thread is protected, whatever its words answered: OCALLs may be nested as deep as the call stack goes.
+/// Every run of a machine's first thread is protected, whatever its words answered: OCALLs may be nested as deep as the
+/// call stack goes.
 pub fn run_law()
-    ensures { (m : Machine) (limit : ℕ) (after : Progress) (outcome : Outcome) → IsSoundMachine m → Runs (first_thread m) (beginning m limit) after outcome → IsProtectedRun m outcome.records after.port.log }
+    ensures { (m : Machine) (limit : ℕ) (after : Progress) (outcome : Outcome) → IsSoundMachine m
+        → Runs (first_thread m) (beginning m limit) after outcome
+        → IsProtectedRun m outcome.records after.port.log }
 {}
 
 /// The report of a machine is that of a protected run.
@@ -22,8 +26,14 @@ pub fn report_law()
     ensures { (m : Machine) (text : List ℕ) → IsSoundMachine m → IsReportOf m text → IsProtectedReport m text }
 {}
 
-/// One run of a small machine as it is computed, which is protected; and logs and records that are no protected run of it:
-/// a load that is made once more, a store to a byte of no call, a refusal with another status than the first row's.
+/// A machine's run is whole or cut: what has a report is cut by no limit, and what is cut is cut by one limit.
+pub fn whole_or_cut_law()
+    ensures whole { (m : Machine) (text : List ℕ) (full : RunFull) → IsReportOf m text → ¬ IsCutBy m full }
+    ensures one_limit { (m : Machine) (full other : RunFull) → IsCutBy m full → IsCutBy m other → full ≡ other }
+{}
+
+/// One run of a small machine as it is computed, which is protected; and logs and records that are no protected run of
+/// it: a load that is made once more, a store to a byte of no call, a refusal with another status than the first row's.
 pub fn examples()
     ensures { Examples }
 {}
