@@ -1,4 +1,5 @@
-//! Laws of bridges, as contracts: that the list of instructions of a function's bridge means what its call is defined to do.
+//! Laws of bridges, as contracts: that the list of instructions of a function's bridge means what its call is defined
+//! to do.
 #![tactic(auto)]
 
 ghost use Rattle.std.specs.Prelude.{ℕ, ◌≡◌, true, false, List, length, Some};
@@ -25,7 +26,8 @@ pub fn ecall_list_law()
 
 /// Without a frame, the list of an OCALL's proxy does what an OCALL of its function is defined to do.
 pub fn bare_proxy_law()
-    ensures { (m : Machine) (handlers : Handlers) (cx : Context) (ordinal : ℕ) (arguments : List Argument) (f : Function)
+    ensures { (m : Machine) (handlers : Handlers) (cx : Context)
+        (ordinal : ℕ) (arguments : List Argument) (f : Function)
         → IsRunnableFunction false f → has_frame f ≡ false
         → ocall_by_list m handlers cx ordinal arguments f (ocall_list f)
         ≡ ocall_or_refusal m handlers cx ordinal arguments (Some f) }
@@ -34,7 +36,8 @@ pub fn bare_proxy_law()
 /// With a frame, the list of an OCALL's proxy does what an OCALL of its function is defined to do: for as many arguments
 /// as parameters, where the fields of the structure lie apart.
 pub fn proxy_list_law()
-    ensures { (m : Machine) (handlers : Handlers) (cx : Context) (ordinal : ℕ) (arguments : List Argument) (f : Function)
+    ensures { (m : Machine) (handlers : Handlers) (cx : Context)
+        (ordinal : ℕ) (arguments : List Argument) (f : Function)
         → has_frame f ≡ true → length f.params ≡ length arguments → AreFieldsApart f arguments
         → ocall_by_list m handlers cx ordinal arguments f (ocall_list f)
         ≡ ocall_or_refusal m handlers cx ordinal arguments (Some f) }
@@ -49,7 +52,8 @@ pub fn fields_apart_law()
 /// The list of an OCALL's proxy does what an OCALL of its function is defined to do, for arguments that fit and fields
 /// that lie one after another within the structure, whatever handlers do.
 pub fn ocall_list_law()
-    ensures { (m : Machine) (handlers : Handlers) (cx : Context) (ordinal : ℕ) (arguments : List Argument) (f : Function)
+    ensures { (m : Machine) (handlers : Handlers) (cx : Context)
+        (ordinal : ℕ) (arguments : List Argument) (f : Function)
         → IsRunnableFunction false f → AreFit f.params arguments → AreInOrder 0 f.frame_size f.params
         → ocall_by_list m handlers cx ordinal arguments f (ocall_list f)
         ≡ ocall_or_refusal m handlers cx ordinal arguments (Some f) }
