@@ -1,7 +1,7 @@
 -- Sizes that stand still at a cap: whatever is done with them, the cap of the outcome is that of the exact one.
 use Rattle.std.proofs.Common.{ℕ, zero, suc, ◌+◌, ◌-◌, ◌*◌, ◌/◌, ◌%◌, ◌^◌, ◌<◌, ◌≤◌, ◌≡◌, ◌⊎◌, min, max, List, [], ◌∷◌, ◌++◌, map, sym, ◌∙◌, ap, inl, inr, arith, refl, Option}
 use Rattle.std.specs.Prelude.{fold}
-use Rattle.std.proofs.Math.Nat.{div-add-mod', mul-zero, mul-le-mul_left, mul-le-mul_right}
+use Rattle.std.proofs.Math.Nat.{div-add-mod', mul-zero, mul-le-mul_left}
 use Rattle.std.proofs.lemmas.Nat.{mod_below}
 use Rattle.std.proofs.lemmas.List.Folds.{fold-map}
 use Rattle.std.proofs.lemmas.List.{map-append}
@@ -10,7 +10,7 @@ use Rattle.edl_layout.specs.declared.extents.Extent.{Extent}
 use Rattle.edl_layout.specs.declared.sizes.Fields.{Fields}
 use Rattle.edl_layout.specs.Shape.{Shape, align_of, largest, end_of, elements, array_shape, structure_shape, union_shape}
 use Rattle.edl_layout.specs.Ends.{kept, shape_at, ends_of, ends_after}
-use Rattle.edl_layout.specs.Sizes.{cap, capped, capped_up, with_field, structure_of, union_of, array_of, IsFields, no_fields}
+use Rattle.edl_layout.specs.Sizes.{cap, capped, capped_up, with_field, structure_of, union_of, array_of, IsFields}
 use Rattle.edl_layout.proofs.Rounding.{round_up-zero}
 
 small_or_large : (n c : ℕ) → (n ≤ c) ⊎ (c < n)

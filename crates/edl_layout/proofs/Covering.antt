@@ -7,7 +7,6 @@ use Rattle.std.proofs.lemmas.Slice.Eq.{bytes_eq-Decides}
 use Rattle.sgx_base.specs.Bytes.{round_up}
 use Rattle.edl_grammar.specs.declared.Gathered.{Gathered}
 use Rattle.edl_grammar.specs.declared.Declared.{Declared}
-use Rattle.edl_grammar.specs.declared.Base.{Base}
 use Rattle.edl_grammar.specs.declared.Base.TheVariants as base
 use Rattle.edl_grammar.specs.declared.TypeDecl.{TypeDecl}
 use Rattle.edl_grammar.specs.declared.TypeDecl.TheVariants as decl
@@ -21,11 +20,11 @@ use Rattle.edl_layout.specs.declared.sizes.TypeSize.{TypeSize}
 use Rattle.edl_layout.specs.declared.sizes.TypeSize.TheVariants as size
 use Rattle.edl_layout.specs.Ends.{kept, shape_at, ends_of, ends_after}
 use Rattle.edl_layout.specs.Shape.{Shape, offsets, elements, array_shape, union_shape, all_known, end_of}
-use Rattle.edl_layout.specs.Meaning.{Meaning, Empty, Real, Integer, Defined, Foreign, Opaque, Undeclared, meaning, bare_meaning, foreign_meaning, or_else, Standard, is_named, standard_types, decl_shape, shape_within, HasShape}
+use Rattle.edl_layout.specs.Meaning.{Meaning, Empty, Integer, Defined, Foreign, Opaque, Undeclared, bare_meaning, foreign_meaning, or_else, Standard, is_named, standard_types, decl_shape, shape_within, HasShape}
 use Rattle.edl_layout.specs.Faults.{IsCleanType}
 use Rattle.edl_layout.specs.Frame.{plain_shape}
 use Rattle.edl_layout.specs.Settled.{IsSettled}
-use Rattle.edl_layout.specs.Sizes.{AreSizes, AreSettled, HasMemberShape, HasShapes, shape_at_depth}
+use Rattle.edl_layout.specs.Sizes.{AreSizes, AreSettled, HasMemberShape, shape_at_depth}
 use Rattle.edl_layout.specs.Judged.{meant_by}
 use Rattle.edl_layout.specs.Meant.{IsMeant}
 use Rattle.edl_layout.specs.Named.{is_name}

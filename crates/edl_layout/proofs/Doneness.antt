@@ -1,14 +1,14 @@
 -- Types from which walks over by-value members are short.
-use Rattle.std.proofs.Common.{◌≡◌, ◌<◌, ◌≤◌, ◌+◌, ℕ, zero, suc, List, [], ◌∷◌, ◌++◌, length, get_or, refl, sym, ◌∙◌, ap, subst, Option, Some, None, zero-add, suc-add, add_comm, add-suc, arith}
-use Rattle.std.specs.Prelude.{filter_map, Contains, slice_get}
+use Rattle.std.proofs.Common.{◌≡◌, ◌+◌, ℕ, zero, suc, List, [], ◌∷◌, refl, sym, ◌∙◌, ap, subst, Option, Some, None, zero-add, suc-add, add_comm, arith}
+use Rattle.std.specs.Prelude.{filter_map, Contains}
 use Rattle.std.specs.List.{cons_option}
 use Rattle.std.proofs.lemmas.Option.{none-some, same_Some}
 use Rattle.edl_grammar.specs.declared.Gathered.{Gathered}
 use Rattle.edl_grammar.specs.declared.Declared.{Declared}
 use Rattle.edl_grammar.specs.Files.{TypeIn}
 use Rattle.edl_layout.specs.declared.ForeignTypes.{ForeignTypes}
-use Rattle.edl_layout.specs.Meaning.{meaning, held, held_by, members_of, Holds, HoldsItself}
-use Rattle.edl_layout.specs.Sizes.{Has, holds_of, IsShort, IsDone, AreDone}
+use Rattle.edl_layout.specs.Meaning.{meaning, held_by, members_of, Holds, HoldsItself}
+use Rattle.edl_layout.specs.Sizes.{Has, holds_of, IsShort, AreDone}
 
 -- an item of a filtered list comes from an item of the list
 pub from_filtered : {X Y : Type 0} (h : X → Option Y) (xs : List X) (y : Y) → Contains (filter_map h xs) y → (x : X) × Has xs x × (h x ≡ Some y)

@@ -1,10 +1,9 @@
 -- The flat list of types.
-use Rattle.std.proofs.Common.{◌≡◌, ◌<◌, ◌≤◌, ◌+◌, ℕ, zero, suc, List, [], ◌∷◌, ◌++◌, map, length, drop, take, get_or, refl, sym, ◌∙◌, ap, subst, Option, Some, None, option_map, append_assoc, append-nil, add-one, arith}
+use Rattle.std.proofs.Common.{◌≡◌, ◌<◌, ◌≤◌, ◌+◌, ℕ, zero, suc, List, [], ◌∷◌, ◌++◌, map, length, drop, take, get_or, refl, sym, ◌∙◌, ap, Some, option_map, append_assoc, append-nil, add-one, arith}
 use Rattle.std.specs.Prelude.{slice_get}
-use Rattle.std.proofs.lemmas.Option.{none-some, same_Some, slice_get-map, slice_get_within, slice_get-get_or}
+use Rattle.std.proofs.lemmas.Option.{slice_get-map, slice_get-get_or}
 use Rattle.std.proofs.lemmas.List.{length-map, map-append}
 use Rattle.std.proofs.Math.Seq.{drop-cons}
-use Rattle.edl_grammar.specs.declared.Gathered.{Gathered}
 use Rattle.edl_grammar.specs.declared.SourceFile.{SourceFile}
 use Rattle.edl_grammar.specs.declared.TypeDecl.{TypeDecl}
 use Rattle.edl_grammar.specs.Files.{TypeIn, types_of, types_from}

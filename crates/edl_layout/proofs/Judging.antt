@@ -1,10 +1,9 @@
 -- The fault of a type, and the fault of the first type that has one.
-use Rattle.std.proofs.Common.{◌≡◌, ◌<◌, ◌≤◌, ◌+◌, ◌-◌, ◌^◌, ◌⊎◌, inl, inr, ℕ, zero, suc, Bool, true, false, List, [], ◌∷◌, length, get_or, drop, min, refl, sym, ◌∙◌, ap, subst, Option, Some, None, map, add-one, arith}
+use Rattle.std.proofs.Common.{◌≡◌, ◌<◌, ◌≤◌, ◌+◌, ◌⊎◌, inl, inr, ℕ, zero, suc, Bool, true, false, List, [], ◌∷◌, length, get_or, drop, min, refl, sym, ◌∙◌, ap, subst, Some, None, map, add-one, arith}
 use Rattle.std.specs.Prelude.{slice_get, filter, All, cond, nat_le}
-use Rattle.std.proofs.lemmas.Option.{none-some, same_Some, slice_get-get_or, slice_get_within}
-use Rattle.std.proofs.lemmas.Bool.Decides.{nat_tests, leb_tells}
+use Rattle.std.proofs.lemmas.Option.{none-some, same_Some, slice_get-get_or}
+use Rattle.std.proofs.lemmas.Bool.Decides.{nat_tests}
 use Rattle.std.proofs.Math.Seq.{drop-cons}
-use Rattle.sgx_base.specs.declared.Fault.{Fault}
 use Rattle.edl_grammar.specs.declared.Gathered.{Gathered}
 use Rattle.edl_grammar.specs.declared.Declared.{Declared}
 use Rattle.edl_grammar.specs.declared.TypeDecl.{TypeDecl}
@@ -12,16 +11,14 @@ use Rattle.edl_grammar.specs.Files.{TypeIn, types_of, token_of, fault_in}
 use Rattle.edl_layout.specs.declared.ForeignTypes.{ForeignTypes}
 use Rattle.edl_layout.specs.declared.LayoutFault.{LayoutFault}
 use Rattle.edl_layout.specs.declared.LayoutFault.TheVariants as faults
-use Rattle.edl_layout.specs.declared.extents.Extent.{Extent}
 use Rattle.edl_layout.specs.declared.sizes.TypeSize.{TypeSize}
 use Rattle.edl_layout.specs.declared.sizes.TypeSize.TheVariants as size
-use Rattle.edl_layout.specs.Ends.{shape_at}
 use Rattle.edl_layout.specs.Shape.{Shape}
-use Rattle.edl_layout.specs.Meaning.{Meaning, Defined, meaning, members_of, HasShape, HoldsItself}
+use Rattle.edl_layout.specs.Meaning.{Defined, members_of, HasShape, HoldsItself}
 use Rattle.edl_layout.specs.Faults.{IsCleanType, TypeFault, FaultAmong, SizeFits, IsFirst, unknown_in_type, unknown_among, wide_values, is_no_value, max_size}
 use Rattle.edl_layout.specs.Faults as spec
 use Rattle.edl_layout.specs.Firsts.{first_of}
-use Rattle.edl_layout.specs.Sizes.{cap, capped, IsTypeSize, AreSizes, AreSettled}
+use Rattle.edl_layout.specs.Sizes.{cap, IsTypeSize, AreSizes, AreSettled}
 use Rattle.edl_layout.specs.Judged.{At, Below, IsApart, TellsItself, is_large}
 use Rattle.edl_layout.specs.Walks.{IsItself}
 use Rattle.edl_layout.proofs.Growing.{one_shape}
@@ -100,25 +97,25 @@ module _ (g : Gathered) (foreign : ForeignTypes) where
     place : (t : TypeIn) → slice_get (types_of g) n ≡ Some t → (code : ℕ) → fault_in g t.file (token_of t.decl) code ≡ fault_in g file (token_of d) code
     place t at code = ap (λ k. fault_in g k (token_of t.decl) code) (of_file t at) ∙ ap (λ (x : TypeDecl). fault_in g file (token_of x) code) (of_decl t at)
 
-    pub itself_at : (token : ℕ) (f : Fault) → token ≡ token_of d → f ≡ fault_in g file token 13 → At g foreign (HoldsItself g foreign) n → At g foreign (λ t. TypeFault g foreign t (faults.SelfHolding f)) n
-    itself_at token f same is holds t at =
-        subst (λ (x : Fault). TypeFault g foreign t (faults.SelfHolding x)) (place t at 13 ∙ ap (λ k. fault_in g file k 13) (sym same) ∙ sym is) (spec.itself (holds t at))
+    pub itself_at : (token : ℕ) (e : LayoutFault) → token ≡ token_of d → e ≡ faults.SelfHolding (fault_in g file token 13) → At g foreign (HoldsItself g foreign) n → At g foreign (λ t. TypeFault g foreign t e) n
+    itself_at token e same is holds t at =
+        subst (λ (x : LayoutFault). TypeFault g foreign t x) (ap faults.SelfHolding (place t at 13 ∙ ap (λ k. fault_in g file k 13) (sym same)) ∙ sym is) (spec.itself (holds t at))
 
-    pub large_at : (sizes : List TypeSize) (z : TypeSize) (token : ℕ) (f : Fault) → token ≡ token_of d → f ≡ fault_in g file token 14 → AreSizes g foreign sizes → slice_get sizes n ≡ Some z → is_large z ≡ true → At g foreign (IsApart g foreign) n
-        → At g foreign (λ t. TypeFault g foreign t (faults.TooLarge f)) n
-    large_at sizes z token f same is sound got big apart' t at =
+    pub large_at : (sizes : List TypeSize) (z : TypeSize) (token : ℕ) (e : LayoutFault) → token ≡ token_of d → e ≡ faults.TooLarge (fault_in g file token 14) → AreSizes g foreign sizes → slice_get sizes n ≡ Some z → is_large z ≡ true → At g foreign (IsApart g foreign) n
+        → At g foreign (λ t. TypeFault g foreign t e) n
+    large_at sizes z token e same is sound got big apart' t at =
         let p = large_by t z big (sound.each n t z at got) in
-        subst (λ (x : Fault). TypeFault g foreign t (faults.TooLarge x)) (place t at 14 ∙ ap (λ k. fault_in g file k 14) (sym same) ∙ sym is) (spec.large (apart' t at) p.0 p.1 p.2)
+        subst (λ (x : LayoutFault). TypeFault g foreign t x) (ap faults.TooLarge (place t at 14 ∙ ap (λ k. fault_in g file k 14) (sym same)) ∙ sym is) (spec.large (apart' t at) p.0 p.1 p.2)
 
-    pub unknown_at : (token : ℕ) (f : Fault) → first_of (unknown_among g foreign (members_of d)) ≡ Some token → f ≡ fault_in g file token 12 → At g foreign (IsApart g foreign) n → At g foreign (SizeFits g foreign) n
-        → At g foreign (λ t. TypeFault g foreign t (faults.Unknown f)) n
-    unknown_at token f first is apart' fits t at =
-        subst (λ (x : Fault). TypeFault g foreign t (faults.Unknown x)) (ap (λ k. fault_in g k token 12) (of_file t at) ∙ sym is)
+    pub unknown_at : (token : ℕ) (e : LayoutFault) → first_of (unknown_among g foreign (members_of d)) ≡ Some token → e ≡ faults.Unknown (fault_in g file token 12) → At g foreign (IsApart g foreign) n → At g foreign (SizeFits g foreign) n
+        → At g foreign (λ t. TypeFault g foreign t e) n
+    unknown_at token e first is apart' fits t at =
+        subst (λ (x : LayoutFault). TypeFault g foreign t x) (ap (λ k. faults.Unknown (fault_in g k token 12)) (of_file t at) ∙ sym is)
         (spec.unknown token (apart' t at) (fits t at) (first_is (unknown_in_type g foreign t) token (ap (λ (x : TypeDecl). first_of (unknown_among g foreign (members_of x))) (of_decl t at) ∙ first)))
 
-    pub value_at : (token : ℕ) (f : Fault) → first_of (wide_values d) ≡ Some token → f ≡ fault_in g file token 14 → At g foreign (λ t. TypeFault g foreign t (faults.TooLarge f)) n
-    value_at token f first is t at =
-        subst (λ (x : Fault). TypeFault g foreign t (faults.TooLarge x)) (ap (λ k. fault_in g k token 14) (of_file t at) ∙ sym is)
+    pub value_at : (token : ℕ) (e : LayoutFault) → first_of (wide_values d) ≡ Some token → e ≡ faults.TooLarge (fault_in g file token 14) → At g foreign (λ t. TypeFault g foreign t e) n
+    value_at token e first is t at =
+        subst (λ (x : LayoutFault). TypeFault g foreign t x) (ap (λ k. faults.TooLarge (fault_in g k token 14)) (of_file t at) ∙ sym is)
         (spec.value token (first_is (wide_values t.decl) token (ap (λ (x : TypeDecl). first_of (wide_values x)) (of_decl t at) ∙ first)))
 
     pub clean_at : At g foreign (IsApart g foreign) n → At g foreign (SizeFits g foreign) n → first_of (unknown_among g foreign (members_of d)) ≡ None → first_of (wide_values d) ≡ None → At g foreign (IsCleanType g foreign) n

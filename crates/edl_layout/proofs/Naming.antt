@@ -1,21 +1,18 @@
 -- The first item of a name, in a table and in a list.
-use Rattle.std.proofs.Common.{◌≡◌, ◌<◌, ◌≤◌, ◌+◌, ◌-◌, ℕ, zero, suc, Bool, true, false, cond, List, [], ◌∷◌, ◌++◌, map, find, length, drop, get_or, refl, sym, ◌∙◌, ap, subst, Option, Some, None, option_map, add-zero, zero-add, add-suc, suc-add, arith}
+use Rattle.std.proofs.Common.{◌≡◌, ◌<◌, ◌≤◌, ◌+◌, ◌-◌, ℕ, zero, suc, Bool, true, false, cond, List, [], ◌∷◌, map, find, length, drop, get_or, refl, sym, ◌∙◌, ap, subst, Option, Some, None, option_map, add-zero, zero-add, arith}
 use Rattle.std.specs.Prelude.{slice_get, ◌&&◌, if◌then◌else◌}
 use Rattle.edl_layout.specs.declared.ForeignType.{ForeignType}
 use Rattle.std.specs.Str.{bytes_eq}
-use Rattle.std.specs.Map.{lookup}
 use Rattle.std.proofs.lemmas.Option.{none-some, same_Some}
 use Rattle.std.proofs.Math.Seq.{drop-cons}
-use denote.Ref.{Bor}
 use Rattle.edl_grammar.specs.declared.Gathered.{Gathered}
 use Rattle.edl_grammar.specs.declared.Tag.{Tag}
 use Rattle.edl_grammar.specs.Files.{TypeIn, types_of}
 use Rattle.edl_layout.specs.declared.ForeignTypes.{ForeignTypes}
-use Rattle.edl_layout.specs.declared.tables.Target.{Target}
-use Rattle.edl_layout.specs.declared.tables.Target.TheVariants.{Fixed, Declared}
+use Rattle.edl_layout.specs.declared.tables.Target.TheVariants.{Declared}
 use Rattle.edl_layout.specs.Shape.{square}
-use Rattle.edl_layout.specs.Meaning.{Meaning, Defined, Integer, Foreign, Undeclared, Opaque, is_named, has_tag, or_else, meaning, bare_meaning, foreign_meaning, standard_types}
-use Rattle.edl_layout.specs.Named.{first_from, is_under, Finds}
+use Rattle.edl_layout.specs.Meaning.{Meaning, Defined, Integer, Foreign, Undeclared, Opaque, is_named, has_tag, or_else, bare_meaning, foreign_meaning, standard_types}
+use Rattle.edl_layout.specs.Named.{first_from, is_under}
 use Rattle.edl_layout.specs.Targets.{IsTarget, IsNumber, standard_size, fixed_shape}
 use Rattle.edl_layout.proofs.Growing.{mapped}
 

@@ -1,9 +1,8 @@
 -- Places rounded up to an alignment, and numbers that stand still at the largest one.
-use Rattle.std.proofs.Common.{ℕ, zero, suc, ◌+◌, ◌-◌, ◌*◌, ◌/◌, ◌%◌, ◌^◌, ◌<◌, ◌≤◌, ◌≡◌, ◌⊎◌, min, sym, ◌∙◌, ap, inl, inr, arith, refl}
-use Rattle.std.proofs.Math.Nat.{div-eq_of_lt-le, div-add-mod', mul-le-mul_left, mul-le-mul_right, div-mul-le_self, lt-div-mul-add, mul-zero}
+use Rattle.std.proofs.Common.{ℕ, ◌+◌, ◌-◌, ◌*◌, ◌/◌, ◌%◌, ◌<◌, ◌≤◌, ◌≡◌, ◌∙◌, ap, arith}
+use Rattle.std.proofs.Math.Nat.{div-eq_of_lt-le, div-add-mod', mul-zero}
 use Rattle.std.proofs.lemmas.Nat.{mod_below}
 use Rattle.sgx_base.specs.Bytes.{round_up}
-use Rattle.edl_layout.specs.Ends.{kept}
 
 -- no alignment, no place
 pub round_up-zero : (n : ℕ) → round_up n 0 ≡ 0

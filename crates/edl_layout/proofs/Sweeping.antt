@@ -1,5 +1,5 @@
 -- Looking for sizes of one type after another.
-use Rattle.std.proofs.Common.{◌≡◌, ◌<◌, ◌≤◌, ◌+◌, ◌||◌, ◌⊎◌, inl, inr, ℕ, zero, suc, Bool, true, false, List, [], ◌∷◌, length, set, take, get_or, refl, sym, ◌∙◌, ap, subst, Option, Some, None, add-one, arith}
+use Rattle.std.proofs.Common.{◌≡◌, ◌<◌, ◌≤◌, ◌+◌, ◌⊎◌, inl, inr, ℕ, zero, suc, Bool, true, false, List, [], ◌∷◌, length, set, take, refl, sym, ◌∙◌, ap, subst, Some, arith}
 use Rattle.std.specs.Prelude.{slice_get, cond}
 use Rattle.edl_layout.specs.Meaning.{members_of}
 use Rattle.std.proofs.lemmas.Option.{none-some, same_Some, slice_get_within}
@@ -9,7 +9,7 @@ use Rattle.edl_grammar.specs.Files.{TypeIn, types_of}
 use Rattle.edl_layout.specs.declared.ForeignTypes.{ForeignTypes}
 use Rattle.edl_layout.specs.declared.sizes.TypeSize.{TypeSize}
 use Rattle.edl_layout.specs.declared.sizes.TypeSize.TheVariants as size
-use Rattle.edl_layout.specs.Sizes.{count_of, waiting, is_waiting, IsTypeSize, IsNextSize, AreSizes, AreSettled, WaitsFor, SomeWaits, Has, HasFound, IsFound, unless_waiting}
+use Rattle.edl_layout.specs.Sizes.{count_of, waiting, is_waiting, IsTypeSize, IsNextSize, AreSizes, AreSettled, WaitsFor, SomeWaits, HasFound, IsFound, unless_waiting}
 
 pub whole_taken : {X : Type 0} (n : ℕ) (xs : List X) → length xs ≤ n → take n xs ≡ xs
 whole_taken zero [] h = refl
@@ -115,55 +115,25 @@ module _ (g : Gathered) (foreign : ForeignTypes) where
     each = λ i t z at got. subst (λ (y : TypeSize). IsTypeSize g foreign t y) (sym (each i z got)) tt;
   }
 
-  -- what was looked at so far, from some sizes on
-  pub record Sweep (old sizes : List TypeSize) (upto : ℕ) (found : Bool) : Type 0 where
-    pub sound : AreSizes g foreign sizes
-    pub least : waiting sizes ≤ waiting old
-    pub fewer : found ≡ true → waiting sizes < waiting old
-    pub waits : found ≡ false → (i : ℕ) → i < upto → WaitsFor g foreign sizes i
+  -- no size is found so far, and the types below this number wait
+  pub record Sweep (old sizes : List TypeSize) (upto : ℕ) : Type 0 where
+    pub same : sizes ≡ old
+    pub waits : (i : ℕ) → i < upto → WaitsFor g foreign old i
 
-  pub sweep_begins : (sizes : List TypeSize) → AreSizes g foreign sizes → Sweep sizes sizes 0 false
-  sweep_begins sizes sound = record {
-    sound = sound;
-    least = omega arith;
-    fewer = λ e. absurd cc;
-    waits = λ _ i low. absurd (omega (arith, low));
-  }
+  pub sweep_begins : (sizes : List TypeSize) → Sweep sizes sizes 0
+  sweep_begins sizes = record { same = refl; waits = λ i low. absurd (omega (arith, low)) }
 
-  pub sweep_goes : (old sizes new : List TypeSize) (i : ℕ) (found now both : Bool) → Sweep old sizes i found → AreSizes g foreign new → (now ≡ true → waiting new < waiting sizes) → (now ≡ false → new ≡ sizes) → (now ≡ false → WaitsFor g foreign sizes i)
-      → both ≡ (found || now) → Sweep old new (i + 1) both
-  sweep_goes old sizes new i found true both h sound fewer same waits is =
-      let low : waiting new < waiting sizes = fewer refl in
-      let least : waiting sizes ≤ waiting old = h.least in
-      record {
-        sound = sound;
-        least = omega arith;
-        fewer = λ _. omega arith;
-        waits = λ e. absurd (or_true found (sym e ∙ is));
-      }
+  pub sweep_goes : (old sizes new : List TypeSize) (i : ℕ) → Sweep old sizes i → new ≡ sizes → WaitsFor g foreign sizes i → Sweep old new (i + 1)
+  sweep_goes old sizes new i h same waits = record { same = same ∙ h.same; waits = λ k low. by k (below_or_at k i low) }
     where
-      or_true : (b : Bool) → false ≡ (b || true) → ⊥
-      or_true true e = cc
-      or_true false e = cc
-  sweep_goes old sizes new i found false both h sound fewer same waits is =
-      let least : waiting sizes ≤ waiting old = h.least in
-      let now_same : waiting new ≡ waiting sizes = ap waiting (same refl) in
-      record {
-        sound = sound;
-        least = omega arith;
-        fewer = λ e. let f : waiting sizes < waiting old = h.fewer (or_false found ∙ sym is ∙ e) in omega arith;
-        waits = λ e k low. subst (λ (z : List TypeSize). WaitsFor g foreign z k) (sym (same refl)) (by (or_false found ∙ sym is ∙ e) k (below_or_at k i low));
-      }
+      by : (k : ℕ) → (k < i) ⊎ (k ≡ i) → WaitsFor g foreign old k
+      by k (inl low) = h.waits k low
+      by k (inr here) = subst (λ (z : List TypeSize). WaitsFor g foreign z k) h.same (subst (λ (j : ℕ). WaitsFor g foreign sizes j) (sym here) waits)
+
+  pub sweep_settled : (old sizes : List TypeSize) (n : ℕ) → length old ≤ n → Sweep old sizes n → AreSettled g foreign sizes
+  sweep_settled old sizes n high h = subst (λ (z : List TypeSize). AreSettled g foreign z) (sym h.same) settled
     where
-      or_false : (b : Bool) → b ≡ (b || false)
-      or_false true = refl
-      or_false false = refl
-
-      by : found ≡ false → (k : ℕ) → (k < i) ⊎ (k ≡ i) → WaitsFor g foreign sizes k
-      by e k (inl low) = h.waits e k low
-      by e k (inr here) = subst (λ (j : ℕ). WaitsFor g foreign sizes j) (sym here) (waits refl)
-
-  pub sweep_settled : (old sizes : List TypeSize) (n : ℕ) (found : Bool) → length sizes ≤ n → Sweep old sizes n found → found ≡ false → AreSettled g foreign sizes
-  sweep_settled old sizes n found high h e i t place waits =
-      let low : i < length sizes = slice_get_within sizes i size.Waiting waits in
-      h.waits e i (omega arith) t place waits
+      settled : AreSettled g foreign old
+      settled i t place waits =
+          let low : i < length old = slice_get_within old i size.Waiting waits in
+          h.waits i (omega arith) t place waits

@@ -18,9 +18,9 @@ use Rattle.edl_layout.specs.declared.sizes.Members.TheVariants as members
 use Rattle.edl_layout.specs.Shape.{Shape, all_known, address, array_shape, structure_shape, union_shape, square}
 use Rattle.edl_layout.specs.declared.extents.Extent.{Extent}
 use Rattle.edl_layout.specs.Ends.{shape_at}
-use Rattle.edl_layout.specs.Meaning.{Meaning, Empty, Real, Integer, Defined, Foreign, Opaque, Undeclared, meaning, held_by, pointed, members_of, member_shape, decl_shape, shape_within, HasShape}
+use Rattle.edl_layout.specs.Meaning.{Meaning, Empty, Real, Integer, Defined, Foreign, Opaque, Undeclared, meaning, held_by, pointed, members_of, decl_shape, shape_within, HasShape}
 use Rattle.edl_layout.specs.Targets.{fixed_shape}
-use Rattle.edl_layout.specs.Sizes.{Has, capped, with_member, with_dims, structure_size, union_size, no_fields, holds_of, shape_at_depth, HasMemberShape, HasShapes, IsDone, AreDone, Waits, SomeWaits, IsElementSize, IsMemberSize, AreMembers, IsNextSize, IsTypeSize, IsShort, AreSizes, AreSettled, WaitsFor}
+use Rattle.edl_layout.specs.Sizes.{Has, capped, with_member, with_dims, structure_size, union_size, no_fields, holds_of, shape_at_depth, HasMemberShape, HasShapes, IsDone, IsElementSize, IsMemberSize, AreMembers, IsNextSize, IsTypeSize, IsShort, AreSizes, AreSettled}
 use Rattle.edl_layout.proofs.Growing.{mapped, Grows, base_shape, grows_by, member_grows, known_grows}
 use Rattle.edl_layout.proofs.Doneness.{short_by_members}
 use Rattle.edl_layout.proofs.Capping.{array_capped, structure_capped, union_capped, one_more_field}

@@ -1,5 +1,5 @@
 -- What a type means, and which types are `void`.
-use Rattle.std.proofs.Common.{◌≡◌, ◌<◌, ◌≤◌, ℕ, zero, suc, Bool, true, false, List, length, get_or, find, min, refl, sym, ◌∙◌, ap, subst, Option, Some, None, option_map, eqb, arith}
+use Rattle.std.proofs.Common.{◌≡◌, ◌≤◌, ℕ, zero, suc, Bool, true, false, List, find, min, refl, sym, ◌∙◌, ap, subst, Option, Some, None, option_map, eqb, arith}
 use Rattle.std.specs.Prelude.{slice_get, All, if◌then◌else◌, ◌&&◌, ◌||◌, not, nat_lt}
 use Rattle.edl_grammar.specs.declared.Written.{Written}
 use Rattle.std.specs.Str.{bytes_eq}
@@ -12,7 +12,6 @@ use Rattle.edl_grammar.specs.Files.{TypeIn, types_of}
 use Rattle.edl_layout.specs.declared.ForeignTypes.{ForeignTypes}
 use Rattle.edl_layout.specs.declared.sizes.TypeSize.{TypeSize}
 use Rattle.edl_layout.specs.declared.sizes.TypeSize.TheVariants as size
-use Rattle.edl_layout.specs.declared.types.Meant.{Meant}
 use Rattle.edl_layout.specs.declared.types.Meant.TheVariants as meant
 use Rattle.edl_layout.specs.declared.extents.Extent.{Extent}
 use Rattle.edl_layout.specs.Ends.{shape_at}

@@ -1,6 +1,6 @@
 -- Walks over the types that types hold.
-use Rattle.std.proofs.Common.{◌≡◌, ◌<◌, ◌≤◌, ◌+◌, ◌⊎◌, inl, inr, ℕ, zero, suc, Bool, true, false, not, List, [], ◌∷◌, ◌++◌, length, replicate, take, get_or, refl, sym, ◌∙◌, ap, subst, Option, Some, None, append-nil, arith}
-use Rattle.std.specs.Prelude.{slice_get, Contains, cond}
+use Rattle.std.proofs.Common.{◌≡◌, ◌<◌, ◌+◌, ◌⊎◌, inl, inr, ℕ, zero, suc, Bool, true, false, not, List, [], ◌∷◌, ◌++◌, length, replicate, take, get_or, refl, sym, ◌∙◌, ap, subst, Some, None, arith}
+use Rattle.std.specs.Prelude.{slice_get}
 use Rattle.std.proofs.Common.{set}
 use Rattle.std.proofs.lemmas.Option.{none-some, same_Some, slice_get_within}
 use Rattle.std.proofs.lemmas.List.{length-set, length-append}
@@ -9,12 +9,12 @@ use Rattle.edl_grammar.specs.declared.Declared.{Declared}
 use Rattle.edl_grammar.specs.Files.{TypeIn, types_of}
 use Rattle.edl_layout.specs.declared.ForeignTypes.{ForeignTypes}
 use Rattle.edl_layout.specs.declared.cycles.Walk.{Walk}
-use Rattle.edl_layout.specs.Meaning.{meaning, held, held_by, Holds, HoldsItself, members_of}
+use Rattle.edl_layout.specs.Meaning.{meaning, held_by, Holds, HoldsItself, members_of}
 use Rattle.edl_layout.specs.Targets.{IsNumber}
 use Rattle.edl_layout.specs.Sizes.{Has, count_of, holds_of}
-use Rattle.edl_layout.specs.Walks.{IsMarked, to_do, IsReached, AreReached, IsHeldBy, HasGone, IsFrom, IsWalk, IsItself}
+use Rattle.edl_layout.specs.Walks.{IsMarked, IsReached, AreReached, IsHeldBy, HasGone, IsFrom, IsWalk, IsItself}
 use Rattle.edl_layout.proofs.Doneness.{from_filtered, into_filtered, walk_join}
-use Rattle.edl_layout.proofs.Together.{has_front, has_last, has_push, take_next}
+use Rattle.edl_layout.proofs.Together.{has_front, has_last, take_next}
 use Rattle.edl_layout.proofs.Sweeping.{get_set_same, get_set_other, same_or_not, count_set}
 
 pub has_append_left : {X : Type 0} (xs ys : List X) (x : X) → Has xs x → Has (xs ++ ys) x

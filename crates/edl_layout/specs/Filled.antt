@@ -1,5 +1,6 @@
 -- How a table of layouts is filled, name after name.
 use Rattle.std.specs.Prelude.{◌≡◌, ◌<◌, ℕ, Bool, true, List, [], map, slice_get, Option, Some, None}
+use Rattle.sgx_base.specs.Bytes.{round_up}
 use Rattle.edl_grammar.specs.declared.Gathered.{Gathered}
 use Rattle.edl_grammar.specs.declared.Declared.{Declared}
 use Rattle.edl_grammar.specs.declared.TypeDecl.{TypeDecl}
@@ -8,7 +9,7 @@ use Rattle.edl_layout.specs.declared.ForeignTypes.{ForeignTypes}
 use Rattle.edl_layout.specs.declared.NamedShape.{NamedShape}
 use Rattle.edl_layout.specs.declared.extents.Extent.{Extent}
 use Rattle.edl_layout.specs.declared.extents.FieldEnds.{FieldEnds}
-use Rattle.edl_layout.specs.Ends.{shape_at, ends_of}
+use Rattle.edl_layout.specs.Ends.{kept, shape_at, ends_of, ends_after}
 use Rattle.edl_layout.specs.Shape.{Shape, offsets}
 use Rattle.edl_layout.specs.Meaning.{Meaning, bare_meaning, HasShape}
 use Rattle.edl_layout.specs.Sizes.{HasMemberShape, HasShapes}
@@ -21,6 +22,13 @@ module _ (g : Gathered) (foreign : ForeignTypes) where
   abbrev pub IsMemberExtent : Declared → Option Extent → Type 0
   IsMemberExtent m None = Unit {0}
   IsMemberExtent m (Some e) = HasMemberShape g foreign m (shape_at e)
+
+  -- the member is put behind the others, at this offset
+  pub record IsPut (m : Declared) (before after : FieldEnds) (o : ℕ) : Type 0 where
+    pub extent : Extent
+    pub shape : HasMemberShape g foreign m (shape_at extent)
+    pub ends : after ≡ ends_after before (shape_at extent)
+    pub offset : o ≡ kept (round_up before.end extent.align)
 
   -- the members are put one behind the other, at these offsets
   pub record ArePut (ms : List Declared) (e : FieldEnds) (o : List ℕ) : Type 0 where

@@ -1,16 +1,19 @@
 -- What is told of the types one after another.
-use Rattle.std.specs.Prelude.{◌≡◌, ◌<◌, ℕ, Bool, true, false, nat_le, List, All, slice_get, Some}
+use Rattle.std.specs.Prelude.{◌≡◌, ◌<◌, ℕ, Bool, true, false, nat_le, List, All, slice_get, Option, Some, None, Result, Ok, Err}
 use Rattle.edl_grammar.specs.declared.Gathered.{Gathered}
 use Rattle.edl_grammar.specs.Files.{TypeIn, types_of}
 use Rattle.edl_layout.specs.declared.ForeignTypes.{ForeignTypes}
 use Rattle.edl_layout.specs.declared.LayoutFault.{LayoutFault}
+use Rattle.edl_layout.specs.declared.LayoutFault.TheVariants.{Memory}
+use Rattle.edl_layout.specs.declared.NamedShape.{NamedShape}
 use Rattle.edl_layout.specs.declared.sizes.TypeSize.{TypeSize}
 use Rattle.edl_layout.specs.declared.sizes.TypeSize.TheVariants as size
 use Rattle.edl_layout.specs.declared.tables.Declarations.{Declarations}
 use Rattle.edl_layout.specs.declared.types.Meant.{Meant}
 use Rattle.edl_layout.specs.declared.types.Meant.TheVariants as meant
 use Rattle.edl_layout.specs.Meaning.{HoldsItself}
-use Rattle.edl_layout.specs.Faults.{IsCleanType, TypeFault}
+use Rattle.edl_layout.specs.Faults.{IsCleanType, TypeFault, HasLayouts, HasLayoutFault}
+use Rattle.edl_layout.specs.Table.{IsTable}
 use Rattle.edl_layout.specs.Named.{IsDeclarations}
 use Rattle.edl_layout.specs.Sizes.{cap, AreSizes, AreSettled}
 
@@ -41,9 +44,19 @@ module _ (g : Gathered) (foreign : ForeignTypes) where
   TellsItself n true = At (HoldsItself g foreign) n
   TellsItself n false = At IsApart n
 
+  -- the fault of the type of a number, where it has one
+  abbrev pub IsTypeFault : ℕ → Option LayoutFault → Type 0
+  IsTypeFault n None = At (IsCleanType g foreign) n
+  IsTypeFault n (Some e) = At (λ t. TypeFault g foreign t e) n
+
 -- the sizes are those of the types in the tables, and the types are clean
 pub record AreTypes (tables : Declarations) (sizes : List TypeSize) : Type 0 where
   pub made : IsDeclarations tables
   pub sound : AreSizes tables.gathered.now tables.foreign.now sizes
   pub settled : AreSettled tables.gathered.now tables.foreign.now sizes
   pub clean : All (IsCleanType tables.gathered.now tables.foreign.now) (types_of tables.gathered.now)
+
+-- the layouts, or the first fault
+abbrev pub HasAnswer : Gathered → ForeignTypes → Result (List NamedShape) LayoutFault → Type 0
+HasAnswer g foreign (Ok l) = HasLayouts g foreign × IsTable g foreign l
+HasAnswer g foreign (Err e) = (e ≡ Memory → ⊥) → HasLayoutFault g foreign e

@@ -1,14 +1,11 @@
 -- Tables of types by name.
-use Rattle.std.specs.Prelude.{◌≡◌, ℕ, zero, suc, Bool, true, false, ◌&&◌, cond, List, [], ◌∷◌, map, Option, Some, None}
+use Rattle.std.specs.Prelude.{◌≡◌, ℕ, suc, Bool, false, ◌&&◌, cond, List, [], ◌∷◌, map, Option, Some, None}
 use Rattle.std.specs.Str.{bytes_eq}
 use Rattle.std.specs.Map.{lookup}
 use denote.Ref.{Bor}
-use Rattle.edl_grammar.specs.declared.Gathered.{Gathered}
-use Rattle.edl_grammar.specs.declared.TypeDecl.{TypeDecl}
 use Rattle.edl_grammar.specs.declared.Tag.{Tag}
 use Rattle.edl_grammar.specs.declared.Tag.TheVariants as tag
 use Rattle.edl_grammar.specs.Files.{TypeIn, types_of}
-use Rattle.edl_layout.specs.declared.ForeignTypes.{ForeignTypes}
 use Rattle.edl_layout.specs.declared.tables.TypeAt.{TypeAt}
 use Rattle.edl_layout.specs.declared.tables.Declarations.{Declarations}
 use Rattle.edl_layout.specs.Meaning.{is_named, has_tag}
@@ -35,6 +32,15 @@ is_name (Some n) name = bytes_eq n.now name
 -- the table gives each name the number of the first type that it finds
 abbrev pub Finds : {X : Type 0} → (List ℕ → X → Bool) → List X → List (Bor (List ℕ) × ℕ) → Type 0
 Finds test xs entries = (name : Bor (List ℕ)) → lookup (λ k. bytes_eq name.now k.now) entries ≡ first_from (test name.now) 0 xs
+
+-- the tables have no names yet
+pub record IsEmpty (d : Declarations) : Type 0 where
+  pub types : d.types.items ≡ []
+  pub bare : d.bare.entries ≡ []
+  pub enumerations : d.enumerations.entries ≡ []
+  pub structures : d.structures.entries ≡ []
+  pub unions : d.unions.entries ≡ []
+  pub foreign : d.foreign_names.entries ≡ []
 
 -- the tables are those of the gathered files and the foreign types
 pub record IsDeclarations (d : Declarations) : Type 0 where

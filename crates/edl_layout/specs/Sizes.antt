@@ -1,5 +1,5 @@
 -- The sizes of types, found one after another.
-use Rattle.std.specs.Prelude.{◌≡◌, ◌≤◌, ◌<◌, ℕ, ◌+◌, ◌*◌, ◌^◌, min, max, Bool, true, false, List, [], ◌∷◌, map, All, length, slice_get, cond, Option, Some, None}
+use Rattle.std.specs.Prelude.{◌≡◌, ℕ, ◌+◌, ◌*◌, ◌^◌, min, max, Bool, true, false, List, [], ◌∷◌, map, length, slice_get, cond, Option, Some, None}
 use Rattle.sgx_base.specs.Bytes.{round_up}
 use Rattle.edl_grammar.specs.declared.Gathered.{Gathered}
 use Rattle.edl_grammar.specs.declared.Declared.{Declared}
@@ -15,7 +15,7 @@ use Rattle.edl_layout.specs.declared.sizes.Members.TheVariants as members
 use Rattle.edl_layout.specs.Shape.{Shape, largest, elements, all_known}
 use Rattle.edl_layout.specs.Ends.{shape_at, ends_of, ends_after}
 use Rattle.edl_layout.specs.Faults.{HasPlainShape}
-use Rattle.edl_layout.specs.Meaning.{Meaning, Defined, meaning, held_by, members_of, member_shape, shape_within, HasShape, Holds}
+use Rattle.edl_layout.specs.Meaning.{Defined, meaning, held_by, members_of, member_shape, shape_within, HasShape, Holds}
 
 -- ---- numbers that stand still at 2 ^ 31
 

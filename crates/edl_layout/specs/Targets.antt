@@ -1,9 +1,7 @@
 -- What a written type is without its stars.
 use Rattle.std.specs.Prelude.{◌≡◌, ℕ, ◌≤◌, find, slice_get, Option, Some, None, option_map, List}
 use Rattle.std.specs.Str.{bytes_eq}
-use Rattle.edl_grammar.specs.declared.Gathered.{Gathered}
-use Rattle.edl_grammar.specs.Files.{TypeIn, types_of}
-use Rattle.edl_layout.specs.declared.ForeignTypes.{ForeignTypes}
+use Rattle.edl_grammar.specs.Files.{TypeIn}
 use Rattle.edl_layout.specs.declared.tables.Target.{Target}
 use Rattle.edl_layout.specs.declared.tables.Target.TheVariants.{Void, Fixed, Unsized, Declared}
 use Rattle.edl_layout.specs.declared.tables.Target.TheVariants as targets

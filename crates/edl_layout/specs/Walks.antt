@@ -1,5 +1,5 @@
 -- Walks from a type over the types that it holds by value.
-use Rattle.std.specs.Prelude.{◌≡◌, ◌<◌, ◌⊎◌, ℕ, ◌+◌, Bool, true, false, not, List, slice_get, length, Option, Some}
+use Rattle.std.specs.Prelude.{◌≡◌, ◌<◌, ◌⊎◌, ℕ, ◌+◌, Bool, true, false, not, List, [], slice_get, length, Some}
 use Rattle.edl_grammar.specs.declared.Gathered.{Gathered}
 use Rattle.edl_grammar.specs.declared.Declared.{Declared}
 use Rattle.edl_grammar.specs.Files.{TypeIn, types_of}
@@ -60,6 +60,11 @@ module _ (g : Gathered) (foreign : ForeignTypes) where
     pub marked : (k : ℕ) → Has w.work k → IsMarked w.reached k
     pub closed : (k : ℕ) (t : TypeIn) → slice_get (types_of g) k ≡ Some t → IsMarked w.reached k → Has w.work k ⊎ AreReached w.reached (members_of t.decl)
     pub start : AreReached w.reached ms
+
+  -- the walk from the type of a number has nowhere left to go
+  pub record HasWalked (number : ℕ) (w : Walk) : Type 0 where
+    pub walk : (t : TypeIn) → slice_get (types_of g) number ≡ Some t → IsWalk (members_of t.decl) w
+    pub done : w.work ≡ []
 
   -- what is told of whether the type of a number holds itself, where none before it that is the same does
   abbrev pub IsItself : ℕ → Bool → Type 0

@@ -3,7 +3,7 @@
 ghost use Rattle.std.specs.Prelude.{◌≡◌, ◌<◌, [], ◌∷◌, length, replicate, slice_get, IfOk, Some, false};
 ghost use Rattle.edl_grammar.specs.Files.{types_of};
 ghost use Rattle.edl_layout.specs.Named.{IsDeclarations};
-ghost use Rattle.edl_layout.specs.Walks.{HasGone, IsItself};
+ghost use Rattle.edl_layout.specs.Walks.{HasGone, HasWalked, IsItself};
 
 use crate::tables::{Declarations, members_of};
 use edl_grammar::Declared;
@@ -65,6 +65,20 @@ impl Walk {
         }
         Ok(())
     }
+
+    /// Goes from the members of the type of this number to all that they hold, itself or through others.
+    fn go(&mut self, tables: &Declarations, number: usize) -> Result<(), AllocError>
+        requires tables { IsDeclarations tables.now }
+        requires within { number < length (types_of tables.now.gathered.now) }
+        requires nowhere { self.old ≡ record { reached = replicate (length (types_of tables.now.gathered.now)) false; work = [] } }
+        ensures { IfOk result (λ _. HasWalked tables.now.gathered.now tables.now.foreign.now number self.new) }
+    {
+        self.reach_all(tables, members_of(tables.decl_at(number)))?;
+        while let Some(next) = self.work.pop() {
+            self.reach_all(tables, members_of(tables.decl_at(next)))?;
+        }
+        Ok(())
+    }
 }
 
 /// Whether the type of this number holds itself, itself or through others, where none before it that is the same type does.
@@ -78,9 +92,6 @@ pub(crate) fn holds_itself(
     ensures { IfOk result (IsItself tables.now.gathered.now tables.now.foreign.now number) }
 {
     let mut walk = Walk::new(alloc, tables.count())?;
-    walk.reach_all(tables, members_of(tables.decl_at(number)))?;
-    while let Some(next) = walk.work.pop() {
-        walk.reach_all(tables, members_of(tables.decl_at(next)))?;
-    }
+    walk.go(tables, number)?;
     Ok(is_marked(walk.reached.as_slice(), number))
 }

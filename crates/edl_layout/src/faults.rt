@@ -4,25 +4,18 @@ ghost use Rattle.std.specs.Prelude.{◌≡◌, ◌<◌, All, length, IfOk, OnOk,
 ghost use Rattle.edl_grammar.specs.Files.{types_of, token_of as token_of_decl};
 ghost use Rattle.edl_layout.specs.Faults as spec;
 ghost use Rattle.edl_layout.specs.Firsts.{first_of};
-ghost use Rattle.edl_layout.specs.Judged.{At, Below, IsApart, TellsItself, is_large as is_large_size};
+ghost use Rattle.edl_layout.specs.Judged.{At, Below, IsApart, IsTypeFault, TellsItself, is_large as is_large_size};
 ghost use Rattle.edl_layout.specs.Named.{IsDeclarations};
 ghost use Rattle.edl_layout.specs.Sizes.{AreSizes, AreSettled};
 
 use crate::LayoutFault;
 use crate::cycles::holds_itself;
 use crate::enumerators::first_wide_value;
-use crate::places::fault_at;
-use crate::sizes::{TypeSize, size_at};
+use crate::places::{self_holding_at, too_large_at, unknown_at};
+use crate::sizes::{CAP, TypeSize, size_at};
 use crate::tables::{Declarations, Target, members_of};
 use edl_grammar::{Declared, TypeDecl, Written};
 use std::alloc::{AllocError, Global};
-
-/// The codes of the faults.
-const UNKNOWN: u8 = 12;
-
-const SELF_HOLDING: u8 = 13;
-
-const TOO_LARGE: u8 = 14;
 
 impl From<AllocError> for LayoutFault {
     ghost use Rattle.std.specs.Prelude.{◌≡◌};
@@ -53,7 +46,7 @@ fn is_large(size: TypeSize) -> bool
     match size {
         TypeSize::Waiting => false,
         TypeSize::Unsized => false,
-        TypeSize::Known(extent) => crate::sizes::TOO_LARGE <= extent.size,
+        TypeSize::Known(extent) => CAP <= extent.size,
     }
 }
 
@@ -101,6 +94,37 @@ fn is_itself(
     }
 }
 
+/// The fault of the type of this number, which holds itself or not.
+fn type_fault(
+    tables: &Declarations,
+    sizes: &[TypeSize],
+    number: usize,
+    itself: bool,
+) -> Option<LayoutFault>
+    requires tables { IsDeclarations tables.now }
+    requires sizes { AreSizes tables.now.gathered.now tables.now.foreign.now sizes.now }
+    requires settled { AreSettled tables.now.gathered.now tables.now.foreign.now sizes.now }
+    requires within { number < length (types_of tables.now.gathered.now) }
+    requires itself { TellsItself tables.now.gathered.now tables.now.foreign.now number itself }
+    ensures { IsTypeFault tables.now.gathered.now tables.now.foreign.now number result }
+{
+    let decl = tables.decl_at(number);
+    let file = tables.file_at(number);
+    if itself {
+        return Some(self_holding_at(tables.gathered, file, token_of(decl)));
+    }
+    if is_large(size_at(sizes, number)) {
+        return Some(too_large_at(tables.gathered, file, token_of(decl)));
+    }
+    if let Some(token) = first_unknown(tables, members_of(decl)) {
+        return Some(unknown_at(tables.gathered, file, token));
+    }
+    match first_wide_value(decl) {
+        Some(token) => Some(too_large_at(tables.gathered, file, token)),
+        None => None,
+    }
+}
+
 /// The fault of the type of this number, where none before it has one.
 fn check_type(
     alloc: Global,
@@ -116,27 +140,11 @@ fn check_type(
     ensures clean { OnOk result (At tables.now.gathered.now tables.now.foreign.now (spec.IsCleanType tables.now.gathered.now tables.now.foreign.now) number) }
     ensures fault { IfErr result (λ e. (e ≡ LayoutFault.Memory → ⊥) → At tables.now.gathered.now tables.now.foreign.now (λ t. spec.TypeFault tables.now.gathered.now tables.now.foreign.now t e) number) }
 {
-    let decl = tables.decl_at(number);
-    let file = tables.file_at(number);
     let itself = is_itself(alloc, tables, sizes, number)?;
-    if itself {
-        let at = fault_at(tables.gathered, file, token_of(decl), SELF_HOLDING);
-        return Err(LayoutFault::SelfHolding(at));
+    match type_fault(tables, sizes, number, itself) {
+        Some(fault) => Err(fault),
+        None => Ok(()),
     }
-    let size = size_at(sizes, number);
-    if is_large(size) {
-        let at = fault_at(tables.gathered, file, token_of(decl), TOO_LARGE);
-        return Err(LayoutFault::TooLarge(at));
-    }
-    if let Some(token) = first_unknown(tables, members_of(decl)) {
-        let at = fault_at(tables.gathered, file, token, UNKNOWN);
-        return Err(LayoutFault::Unknown(at));
-    }
-    if let Some(token) = first_wide_value(decl) {
-        let at = fault_at(tables.gathered, file, token, TOO_LARGE);
-        return Err(LayoutFault::TooLarge(at));
-    }
-    Ok(())
 }
 
 /// The fault of the first type in order that has one.

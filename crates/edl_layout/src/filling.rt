@@ -1,6 +1,6 @@
 //! The table of the layouts of all names that have one.
 
-ghost use Rattle.std.specs.Prelude.{◌≡◌, ◌<◌, map, length, IfOk, None};
+ghost use Rattle.std.specs.Prelude.{◌≡◌, ◌<◌, [], map, length, IfOk, OnOk, None};
 ghost use Rattle.std.specs.Str.{bytes_eq};
 ghost use Rattle.edl_grammar.specs.Files.{types_of};
 ghost use Rattle.edl_layout.specs.Ends.{shape_at};
@@ -139,13 +139,22 @@ fn add_foreign(alloc: Global, types: &Types, table: &mut Layouts) -> Result<(), 
     Ok(())
 }
 
+/// Puts all names that have a shape into an empty table.
+fn fill(alloc: Global, types: &Types, table: &mut Layouts) -> Result<(), AllocError>
+    requires { table.old ≡ [] }
+    ensures { OnOk result (IsTable types.now.gathered types.now.foreign table.new) }
+{
+    add_declared(alloc, types, table)?;
+    add_standard(alloc, types, table)?;
+    add_foreign(alloc, types, table)?;
+    Ok(())
+}
+
 /// The table of these types.
 pub(crate) fn table_of(alloc: Global, types: &Types) -> Result<Layouts, AllocError>
     ensures { IfOk result (λ l. IsTable types.now.gathered types.now.foreign l) }
 {
     let mut table = Layouts::new(alloc);
-    add_declared(alloc, types, &mut table)?;
-    add_standard(alloc, types, &mut table)?;
-    add_foreign(alloc, types, &mut table)?;
+    fill(alloc, types, &mut table)?;
     Ok(table)
 }

@@ -111,7 +111,7 @@ fn with_field(mut ends: FieldEnds, field: Option<Extent>) -> Option<FieldEnds>
     ensures { result ≡ option_map (λ e. ends_after ends (shape_at e)) field }
 {
     let field = field?;
-    let _offset = ends.push(field);
+    ends.push(field);
     Some(ends)
 }
 

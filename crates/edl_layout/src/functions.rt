@@ -2,22 +2,15 @@
 
 ghost use Rattle.std.specs.Prelude.{◌≡◌, [], ◌∷◌, All, filter_map, MatchOption, OnOk, IfErr, option_map};
 ghost use Rattle.std.specs.Option.{option_copied};
-ghost use Rattle.edl_grammar.specs.Files.{fault_in};
 ghost use Rattle.edl_layout.specs.Faults as faults;
 ghost use Rattle.edl_layout.specs.Picks.{pick_of, Checked, IsFrameFault, IsFunctionFault, AreCheckedFunctions};
 ghost use Rattle.edl_layout.specs.Pushed.{is_none_of, IsArrayTest};
 
 use crate::LayoutFault;
 use crate::frames::{is_array, is_frame_too_large, is_too_long, is_void};
-use crate::places::fault_at;
+use crate::places::{too_large_at, unknown_at};
 use crate::types::{Meant, Types};
 use edl_grammar::{Declared, FuncDecl, Gathered, Pick, Written};
-
-/// The code of an unknown type.
-const UNKNOWN: u8 = 12;
-
-/// The code of an array or a frame that is too large.
-const TOO_LARGE: u8 = 14;
 
 fn is_undeclared(meant: Meant) -> bool
     ensures { result ≡ is_none_of meant }
@@ -49,28 +42,14 @@ fn is_long_array(types: &Types, declared: &Declared) -> bool
     is_array(declared) && is_too_long(types, declared)
 }
 
-/// The fault of a type that is not declared, at this token.
-fn unknown_at(types: &Types, file: u32, token: u32) -> LayoutFault
-    ensures { result ≡ LayoutFault.Unknown (fault_in types.now.gathered file token 12) }
-{
-    LayoutFault::Unknown(fault_at(types.gathered(), file, token, UNKNOWN))
-}
-
-/// The fault of what is too large, at this token.
-fn too_large_at(types: &Types, file: u32, token: u32) -> LayoutFault
-    ensures { result ≡ LayoutFault.TooLarge (fault_in types.now.gathered file token 14) }
-{
-    LayoutFault::TooLarge(fault_at(types.gathered(), file, token, TOO_LARGE))
-}
-
 /// The fault of a parameter: its type, and then the length of an array.
 fn param_fault(types: &Types, file: u32, declared: &Declared) -> Option<LayoutFault>
     ensures { MatchOption result (faults.IsCleanParam types.now.gathered types.now.foreign declared.now) (faults.ParamFault types.now.gathered types.now.foreign file declared.now) }
 {
     if is_no_value(types, &declared.written) {
-        Some(unknown_at(types, file, declared.written.token))
+        Some(unknown_at(types.gathered(), file, declared.written.token))
     } else if is_long_array(types, declared) {
-        Some(too_large_at(types, file, declared.token))
+        Some(too_large_at(types.gathered(), file, declared.token))
     } else {
         None
     }
@@ -93,7 +72,7 @@ fn frame_fault(types: &Types, file: u32, is_trusted: bool, decl: &FuncDecl) -> O
     ensures { IsFrameFault types.now.gathered types.now.foreign (record { file = file; is_trusted = is_trusted; decl = decl.now }) result }
 {
     if is_frame_too_large(types, is_trusted, decl) {
-        Some(too_large_at(types, file, decl.token))
+        Some(too_large_at(types.gathered(), file, decl.token))
     } else {
         None
     }
@@ -109,7 +88,7 @@ fn function_fault(
     ensures { IsFunctionFault types.now.gathered types.now.foreign (record { file = file; is_trusted = is_trusted; decl = decl.now }) result }
 {
     if is_unknown(types, &decl.result) {
-        return Some(unknown_at(types, file, decl.result.token));
+        return Some(unknown_at(types.gathered(), file, decl.result.token));
     }
     match params_fault(types, file, decl.params.as_slice()) {
         Some(fault) => Some(fault),

@@ -4,6 +4,8 @@
 ghost use Rattle.std.specs.Prelude.{◌≡◌, All, IfOk, IfErr};
 ghost use Rattle.edl_layout.specs.Faults as faults;
 ghost use Rattle.edl_layout.specs.Faults.{HasLayouts, HasLayoutFault};
+ghost use Rattle.edl_layout.specs.Judged.{HasAnswer};
+ghost use Rattle.edl_layout.specs.Named.{IsDeclarations};
 ghost use Rattle.edl_layout.specs.Table.{IsTable};
 
 mod cycles;
@@ -23,10 +25,12 @@ mod types;
 
 use crate::filling::table_of;
 use crate::functions::check_functions;
-use crate::types::Types;
+use crate::tables::Declarations;
+use crate::types::{Types, clean_sizes};
 use edl_grammar::Gathered;
 pub use extents::{Extent, FieldEnds, array_size, ends_of_fields};
 pub use layouts::Layouts;
+pub use places::fault_at;
 use sgx_base::{Fault, Name};
 use sqlite_items::Items;
 use std::alloc::Global;
@@ -79,6 +83,15 @@ fn layout_of_types(alloc: Global, types: &Types) -> Result<Layouts, LayoutFault>
     Ok(layouts)
 }
 
+/// The layouts of the types in these tables, or the first fault.
+fn layout_of_tables(alloc: Global, tables: &Declarations) -> Result<Layouts, LayoutFault>
+    requires { IsDeclarations tables.now }
+    ensures { HasAnswer tables.now.gathered.now tables.now.foreign.now result }
+{
+    let sizes = clean_sizes(alloc, tables)?;
+    layout_of_types(alloc, &Types::new(tables, sizes.as_slice()))
+}
+
 /// The layouts of all types that have a name and a known size, or the first fault: of the types in order of reading, and then of the
 /// trusted and the untrusted functions in order. Faults are `E12` (a type that is not declared), `E13` (a type that holds itself) and
 /// `E14` (a size, a length or an enumerator above 2^31 - 1, or a marshalling structure above 1024 bytes). Memory is wanting also where a
@@ -91,6 +104,7 @@ pub fn layout_of(
     ensures ok { IfOk result (λ l. HasLayouts gathered.now foreign.now × IsTable gathered.now foreign.now l) }
     ensures fault { IfErr result (λ e. (e ≡ LayoutFault.Memory → ⊥) → HasLayoutFault gathered.now foreign.now e) }
 {
-    let types = Types::new(alloc, gathered, foreign)?;
-    layout_of_types(alloc, &types)
+    let mut tables = Declarations::empty(alloc, gathered, foreign);
+    tables.fill()?;
+    layout_of_tables(alloc, &tables)
 }

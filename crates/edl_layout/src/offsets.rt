@@ -5,7 +5,7 @@
 ghost use Rattle.std.specs.Prelude.{◌≡◌, List, IfOk, IfSome};
 ghost use Rattle.sgx_base.specs.Bytes.{round_up};
 ghost use Rattle.edl_layout.specs.Ends.{kept, shape_at, ends_after};
-ghost use Rattle.edl_layout.specs.Filled.{IsMemberExtent, AreOffsets};
+ghost use Rattle.edl_layout.specs.Filled.{IsMemberExtent, IsPut, AreOffsets};
 ghost use Rattle.edl_layout.specs.Shape.{Shape, offsets};
 ghost use Rattle.edl_layout.specs.Sizes.{HasShapes};
 
@@ -38,6 +38,14 @@ fn put(ends: &mut FieldEnds, member: Extent) -> Option<u32>
     u32::try_from(ends.push(member)).ok()
 }
 
+/// Puts a member behind the others, and gives its offset, where that is known and fits.
+fn put_member(types: &Types, ends: &mut FieldEnds, member: &Declared) -> Option<u32>
+    ensures { IfSome result (IsPut types.now.gathered types.now.foreign member.now ends.old ends.new) }
+{
+    let extent = member_extent(types, member)?;
+    put(ends, extent)
+}
+
 /// The offsets of the members of a structure.
 fn structure_offsets(
     alloc: Global,
@@ -46,18 +54,15 @@ fn structure_offsets(
 ) -> Result<Items<u32>, AllocError>
     ensures { IfOk result (λ o. (ss : List Shape) × HasShapes types.now.gathered types.now.foreign members.now ss × (o ≡ offsets ss)) }
 {
-    let mut offsets = Vec::new(alloc);
+    let mut offsets = Items::new(alloc);
     let mut ends = FieldEnds::new();
     for member in members {
-        let Some(extent) = member_extent(types, member) else {
-            return Err(AllocError);
-        };
-        let Some(offset) = put(&mut ends, extent) else {
+        let Some(offset) = put_member(types, &mut ends, member) else {
             return Err(AllocError);
         };
         offsets.push(offset)?;
     }
-    Ok(Items::from_vec(offsets))
+    Ok(offsets)
 }
 
 /// The offsets of the members of a type that has a shape.

@@ -51,39 +51,45 @@ impl Holders {
         }
         Ok(())
     }
-}
 
-/// The types that each type holds.
-fn holders_in(alloc: Global, tables: &Declarations) -> Result<Holders, AllocError>
-    requires { IsDeclarations tables.now }
-{
-    let mut holders = Holders::new(alloc, tables.count())?;
-    for number in 0..tables.count() {
-        for member in members_of(tables.decl_at(number)) {
-            if let Some(held) = tables.held(&member.written) {
-                holders.note(number, held)?;
+    /// Notes what each type holds.
+    fn note_all(&mut self, tables: &Declarations) -> Result<(), AllocError>
+        requires { IsDeclarations tables.now }
+    {
+        for number in 0..tables.count() {
+            for member in members_of(tables.decl_at(number)) {
+                if let Some(held) = tables.held(&member.written) {
+                    self.note(number, held)?;
+                }
             }
         }
+        Ok(())
     }
-    Ok(holders)
+
+    /// Puts the types that hold none first, and then each one when all that it holds are ordered.
+    fn put_in_order(&mut self, order: &mut Vec<usize>) -> Result<(), AllocError> {
+        for (number, left) in self.left.iter().enumerate() {
+            if *left == 0 {
+                order.push(number)?;
+            }
+        }
+        for place in 0..self.left.len() {
+            let Some(number) = order.get(place).copied() else {
+                break;
+            };
+            self.release(number, order)?;
+        }
+        Ok(())
+    }
 }
 
 /// The types that hold none first, and then each one when all that it holds are ordered.
 pub(crate) fn order_of(alloc: Global, tables: &Declarations) -> Result<Vec<usize>, AllocError>
     requires { IsDeclarations tables.now }
 {
-    let mut holders = holders_in(alloc, tables)?;
+    let mut holders = Holders::new(alloc, tables.count())?;
+    holders.note_all(tables)?;
     let mut order = Vec::new(alloc);
-    for (number, left) in holders.left.iter().enumerate() {
-        if *left == 0 {
-            order.push(number)?;
-        }
-    }
-    for place in 0..tables.count() {
-        let Some(number) = order.get(place).copied() else {
-            break;
-        };
-        holders.release(number, &mut order)?;
-    }
+    holders.put_in_order(&mut order)?;
     Ok(order)
 }

@@ -4,6 +4,7 @@ ghost use Rattle.std.specs.Prelude.{◌≡◌, slice_get, option_and_then};
 ghost use Rattle.std.specs.Option.{option_copied};
 ghost use Rattle.edl_grammar.specs.Files.{fault_in};
 
+use crate::LayoutFault;
 use edl_grammar::Gathered;
 use edl_lexer::Token;
 use sgx_base::Fault;
@@ -16,7 +17,7 @@ fn token_at(gathered: &Gathered, file: u32, token: u32) -> Option<&Token>
 }
 
 /// The fault with this code at a token of a file, or at line 0 where there is no such token.
-pub(crate) fn fault_at(gathered: &Gathered, file: u32, token: u32, code: u8) -> Fault
+pub fn fault_at(gathered: &Gathered, file: u32, token: u32, code: u8) -> Fault
     ensures { result ≡ fault_in gathered.now file token code }
 {
     match token_at(gathered, file, token) {
@@ -33,4 +34,25 @@ pub(crate) fn fault_at(gathered: &Gathered, file: u32, token: u32, code: u8) -> 
             code,
         },
     }
+}
+
+/// The fault of a type that is not declared, at this token.
+pub(crate) fn unknown_at(gathered: &Gathered, file: u32, token: u32) -> LayoutFault
+    ensures { result ≡ LayoutFault.Unknown (fault_in gathered.now file token 12) }
+{
+    LayoutFault::Unknown(fault_at(gathered, file, token, 12))
+}
+
+/// The fault of a type that holds itself, at this token.
+pub(crate) fn self_holding_at(gathered: &Gathered, file: u32, token: u32) -> LayoutFault
+    ensures { result ≡ LayoutFault.SelfHolding (fault_in gathered.now file token 13) }
+{
+    LayoutFault::SelfHolding(fault_at(gathered, file, token, 13))
+}
+
+/// The fault of what is too large, at this token.
+pub(crate) fn too_large_at(gathered: &Gathered, file: u32, token: u32) -> LayoutFault
+    ensures { result ≡ LayoutFault.TooLarge (fault_in gathered.now file token 14) }
+{
+    LayoutFault::TooLarge(fault_at(gathered, file, token, 14))
 }

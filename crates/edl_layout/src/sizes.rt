@@ -3,7 +3,7 @@
 //! A size is exact up to 2^31 - 1, and 2^31 where it is above. That keeps every sum and product small, and a size that is above stays above
 //! in all that holds it.
 
-ghost use Rattle.std.specs.Prelude.{◌≡◌, ◌<◌, ◌||◌, ℕ, min, length, slice_get, true, false, IfOk, Some};
+ghost use Rattle.std.specs.Prelude.{◌≡◌, ◌<◌, ℕ, min, length, slice_get, true, false, IfOk, Some};
 ghost use Rattle.edl_layout.specs.Ends.{shape_at};
 ghost use Rattle.edl_layout.specs.Named.{IsDeclarations};
 ghost use Rattle.edl_layout.specs.Sizes as spec;
@@ -16,10 +16,10 @@ use sqlite_items::Items;
 use std::alloc::{AllocError, Global};
 
 /// The least size that is too large.
-pub(crate) const TOO_LARGE: u32 = 1 << 31;
+pub(crate) const CAP: u32 = 1 << 31;
 
 /// The size of a type: not found yet, unknown, or known.
-#[derive(Clone, Copy, Debug, PartialEq, Eq)]
+#[derive(Clone, Copy)]
 pub(crate) enum TypeSize {
     Waiting,
     Unsized,
@@ -27,14 +27,14 @@ pub(crate) enum TypeSize {
 }
 
 /// Members put together, one behind the other and one over the other.
-#[derive(Clone, Copy, Debug, PartialEq, Eq)]
+#[derive(Clone, Copy)]
 pub(crate) struct Fields {
     ends: FieldEnds,
     largest: u32,
 }
 
 /// The members of a type together, by their sizes.
-#[derive(Clone, Copy, Debug, PartialEq, Eq)]
+#[derive(Clone, Copy)]
 pub(crate) enum Members {
     Waiting,
     Unsized,
@@ -45,7 +45,7 @@ pub(crate) enum Members {
 fn capped(size: u64) -> u32
     ensures { result ≡ min size spec.cap }
 {
-    size.min(u64::from(TOO_LARGE)) as u32
+    size.min(u64::from(CAP)) as u32
 }
 
 /// The extent with its size capped.
@@ -53,7 +53,7 @@ fn capped_extent(extent: Extent) -> Extent
     ensures { shape_at result ≡ spec.capped (shape_at extent) }
 {
     Extent {
-        size: extent.size.min(TOO_LARGE),
+        size: extent.size.min(CAP),
         align: extent.align,
     }
 }
@@ -74,7 +74,7 @@ impl Fields {
         ensures { result ≡ spec.with_field self member }
     {
         let mut ends = self.ends;
-        let _offset = ends.push(member);
+        ends.push(member);
         Fields {
             ends,
             largest: self.largest.max(member.size),
@@ -260,13 +260,6 @@ fn size_one(tables: &Declarations, sizes: &mut Items<TypeSize>, number: usize) -
     }
 }
 
-/// Whether one of two holds.
-fn either(first: bool, second: bool) -> bool
-    ensures { result ≡ (first || second) }
-{
-    first || second
-}
-
 /// Finds sizes in this order, which is a good one where each type comes behind those that it holds.
 fn size_in_order(tables: &Declarations, sizes: &mut Items<TypeSize>, order: &[usize])
     requires tables { IsDeclarations tables.now }
@@ -275,25 +268,25 @@ fn size_in_order(tables: &Declarations, sizes: &mut Items<TypeSize>, order: &[us
 {
     for number in order {
         if *number < sizes.len() {
-            let _found = size_one(tables, sizes, *number);
+            size_one(tables, sizes, *number);
         }
     }
 }
 
-/// Looks at each type once, and tells whether a size was found.
-fn size_all(tables: &Declarations, sizes: &mut Items<TypeSize>) -> bool
+/// Finds one size more, and tells whether there was one: a type that waits for no other.
+fn size_another(tables: &Declarations, sizes: &mut Items<TypeSize>) -> bool
     requires tables { IsDeclarations tables.now }
     requires sizes { spec.AreSizes tables.now.gathered.now tables.now.foreign.now sizes.old }
     ensures sizes { spec.AreSizes tables.now.gathered.now tables.now.foreign.now sizes.new }
     ensures fewer { result ≡ true → spec.waiting sizes.new < spec.waiting sizes.old }
     ensures settled { result ≡ false → spec.AreSettled tables.now.gathered.now tables.now.foreign.now sizes.new }
 {
-    let mut found = false;
     for number in 0..sizes.len() {
-        let now = size_one(tables, sizes, number);
-        found = either(found, now);
+        if size_one(tables, sizes, number) {
+            return true;
+        }
     }
-    found
+    false
 }
 
 /// Finds sizes in this order, and then until none is found any more.
@@ -304,7 +297,7 @@ fn settle(tables: &Declarations, sizes: &mut Items<TypeSize>, order: &[usize])
     ensures settled { spec.AreSettled tables.now.gathered.now tables.now.foreign.now sizes.new }
 {
     size_in_order(tables, sizes, order);
-    while size_all(tables, sizes) {}
+    while size_another(tables, sizes) {}
 }
 
 /// The sizes of all types. Those that still wait hold themselves, or hold one that does.

@@ -1,12 +1,12 @@
 //! Tables of the declared and the foreign types by name, and what a written type is.
 
-ghost use Rattle.std.specs.Prelude.{◌≡◌, ◌||◌, ◌<◌, ℕ, List, ◌++◌, map, find, length, slice_get, Some, None, option_map, IfOk};
+ghost use Rattle.std.specs.Prelude.{◌≡◌, ◌||◌, ◌<◌, ℕ, List, [], ◌++◌, map, find, length, slice_get, Some, None, option_map, IfOk, OnOk};
 ghost use Rattle.std.specs.Option.{option_copied};
 ghost use Rattle.std.specs.Str.{bytes_eq};
 ghost use Rattle.edl_grammar.specs.declared.Tag.TheVariants as tag;
 ghost use Rattle.edl_grammar.specs.Files.{TypeIn, types_of};
 ghost use Rattle.edl_layout.specs.Meaning as spec;
-ghost use Rattle.edl_layout.specs.Named.{seen, is_under, is_name, first_from, Finds, IsDeclarations};
+ghost use Rattle.edl_layout.specs.Named.{seen, is_under, is_name, first_from, Finds, IsDeclarations, IsEmpty};
 ghost use Rattle.edl_layout.specs.Targets.{IsTarget, IsHeld, standard_size};
 
 use crate::extents::Extent;
@@ -36,7 +36,7 @@ pub(crate) struct Declarations<'a> {
 }
 
 /// What a written type is without its stars. A declared type is its number.
-#[derive(Clone, Copy, Debug, PartialEq, Eq)]
+#[derive(Clone, Copy)]
 pub(crate) enum Target {
     Void,
     Fixed(Extent),
@@ -70,18 +70,18 @@ fn push_types<'a>(
     Ok(())
 }
 
-/// The declared types in order of reading. There may be 2^32 files at most.
-fn types_in<'a>(alloc: Global, gathered: &'a Gathered) -> Result<Vec<TypeAt<'a>>, AllocError>
-    ensures { IfOk result (λ v. map seen v.items ≡ types_of gathered.now) }
+/// Puts the declared types in order of reading into an empty list. There may be 2^32 files at most.
+fn push_all<'a>(types: &mut Vec<TypeAt<'a>>, gathered: &'a Gathered) -> Result<(), AllocError>
+    requires { types.old.items ≡ [] }
+    ensures { OnOk result (map seen types.new.items ≡ types_of gathered.now) }
 {
-    let mut types = Vec::new(alloc);
     for (i, file) in gathered.files.as_slice().iter().enumerate() {
         let Ok(number) = u32::try_from(i) else {
             return Err(AllocError);
         };
-        push_types(&mut types, number, file.tree.types.as_slice())?;
+        push_types(types, number, file.tree.types.as_slice())?;
     }
-    Ok(types)
+    Ok(())
 }
 
 /// The name of a declared type where it has this tag, or with any tag.
@@ -104,58 +104,35 @@ fn name_under<'a>(decl: &'a TypeDecl, tag: Option<Tag>) -> Option<&'a [u8]>
     }
 }
 
-/// The numbers of the first types by name, among those with this tag or among all.
-fn first_types<'a>(
-    alloc: Global,
+/// Puts the numbers of the first types by name, among those with this tag or among all, into an empty table.
+fn put_types<'a>(
+    table: &mut IndexMap<&'a [u8], usize>,
     types: &[TypeAt<'a>],
     tag: Option<Tag>,
-) -> Result<IndexMap<&'a [u8], usize>, AllocError>
-    ensures { IfOk result (λ table. Finds (is_under tag) (map seen types.now) table.entries) }
+) -> Result<(), AllocError>
+    requires { table.old.entries ≡ [] }
+    ensures { OnOk result (Finds (is_under tag) (map seen types.now) table.new.entries) }
 {
-    let mut table = IndexMap::new(alloc);
     for i in (0..types.len()).rev() {
         if let Some(name) = name_under(types[i].decl, tag) {
             table.insert(name, i)?;
         }
     }
-    Ok(table)
+    Ok(())
 }
 
-/// The numbers of the first types by name, behind each tag.
-#[derive(Drop)]
-struct Tagged<'a> {
-    enumerations: IndexMap<&'a [u8], usize>,
-    structures: IndexMap<&'a [u8], usize>,
-    unions: IndexMap<&'a [u8], usize>,
-}
-
-fn tagged_types<'a>(alloc: Global, types: &[TypeAt<'a>]) -> Result<Tagged<'a>, AllocError>
-    ensures enumerations { IfOk result (λ t. Finds (is_under (Some tag.Enum)) (map seen types.now) t.enumerations.entries) }
-    ensures structures { IfOk result (λ t. Finds (is_under (Some tag.Struct)) (map seen types.now) t.structures.entries) }
-    ensures unions { IfOk result (λ t. Finds (is_under (Some tag.Union)) (map seen types.now) t.unions.entries) }
-{
-    let enumerations = first_types(alloc, types, Some(Tag::Enum))?;
-    let structures = first_types(alloc, types, Some(Tag::Struct))?;
-    let unions = first_types(alloc, types, Some(Tag::Union))?;
-    Ok(Tagged {
-        enumerations,
-        structures,
-        unions,
-    })
-}
-
-/// The numbers of the first foreign types by name.
-fn first_foreign<'a>(
-    alloc: Global,
+/// Puts the numbers of the first foreign types by name into an empty table.
+fn put_foreign<'a>(
+    table: &mut IndexMap<&'a [u8], usize>,
     types: &'a [ForeignType],
-) -> Result<IndexMap<&'a [u8], usize>, AllocError>
-    ensures { IfOk result (λ table. Finds (λ name t. bytes_eq t.name name) types.now table.entries) }
+) -> Result<(), AllocError>
+    requires { table.old.entries ≡ [] }
+    ensures { OnOk result (Finds (λ name t. bytes_eq t.name name) types.now table.new.entries) }
 {
-    let mut table = IndexMap::new(alloc);
     for i in (0..types.len()).rev() {
         table.insert(types[i].name.bytes(), i)?;
     }
-    Ok(table)
+    Ok(())
 }
 
 /// Whether the name is this word.
@@ -194,30 +171,50 @@ fn standard_size_of(name: &[u8]) -> Option<u32>
 }
 
 impl<'a> Declarations<'a> {
-    /// The tables of these files and foreign types.
-    pub(crate) fn new(
+    /// Tables of these files and foreign types that have no names yet.
+    pub(crate) fn empty(
         alloc: Global,
         gathered: &'a Gathered,
         foreign: &'a ForeignTypes,
-    ) -> Result<Declarations<'a>, AllocError>
-        ensures tables { IfOk result IsDeclarations }
-        ensures files { IfOk result (λ d. d.gathered.now ≡ gathered.now) }
-        ensures foreign { IfOk result (λ d. d.foreign.now ≡ foreign.now) }
+    ) -> Declarations<'a>
+        ensures empty { IsEmpty result }
+        ensures files { result.gathered.now ≡ gathered.now }
+        ensures foreign { result.foreign.now ≡ foreign.now }
     {
-        let types = types_in(alloc, gathered)?;
-        let bare = first_types(alloc, types.as_slice(), None)?;
-        let tagged = tagged_types(alloc, types.as_slice())?;
-        let foreign_names = first_foreign(alloc, foreign.types.as_slice())?;
-        Ok(Declarations {
+        Declarations {
             gathered,
             foreign,
-            types,
-            bare,
-            enumerations: tagged.enumerations,
-            structures: tagged.structures,
-            unions: tagged.unions,
-            foreign_names,
-        })
+            types: Vec::new(alloc),
+            bare: IndexMap::new(alloc),
+            enumerations: IndexMap::new(alloc),
+            structures: IndexMap::new(alloc),
+            unions: IndexMap::new(alloc),
+            foreign_names: IndexMap::new(alloc),
+        }
+    }
+
+    /// Puts all names into empty tables.
+    pub(crate) fn fill(&mut self) -> Result<(), AllocError>
+        requires { IsEmpty self.old }
+        ensures tables { OnOk result (IsDeclarations self.new) }
+        ensures files { self.new.gathered.now ≡ self.old.gathered.now }
+        ensures foreign { self.new.foreign.now ≡ self.old.foreign.now }
+    {
+        push_all(&mut self.types, self.gathered)?;
+        put_types(&mut self.bare, self.types.as_slice(), None)?;
+        put_types(
+            &mut self.enumerations,
+            self.types.as_slice(),
+            Some(Tag::Enum),
+        )?;
+        put_types(
+            &mut self.structures,
+            self.types.as_slice(),
+            Some(Tag::Struct),
+        )?;
+        put_types(&mut self.unions, self.types.as_slice(), Some(Tag::Union))?;
+        put_foreign(&mut self.foreign_names, self.foreign.types.as_slice())?;
+        Ok(())
     }
 
     /// The declaration of the type of this number.

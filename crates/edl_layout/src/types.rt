@@ -15,14 +15,14 @@ use crate::extents::Extent;
 use crate::faults::check_types;
 use crate::sizes::{TypeSize, size_at, sizes_of};
 use crate::tables::{Declarations, Target};
-use crate::{ForeignType, ForeignTypes, LayoutFault};
+use crate::{ForeignType, LayoutFault};
 use edl_grammar::{Base, Gathered, TypeDecl};
 use sqlite_items::Items;
 use std::alloc::Global;
 use std::marker::Model;
 
 /// What is known of a type without its stars.
-#[derive(Clone, Copy, Debug, PartialEq, Eq)]
+#[derive(Clone, Copy)]
 pub(crate) enum Meant {
     Void,
     Known(Extent),
@@ -33,8 +33,8 @@ pub(crate) enum Meant {
 /// The types of gathered files and foreign types, each declared one without a fault.
 #[derive(Drop)]
 pub(crate) struct Types<'a> {
-    tables: Declarations<'a>,
-    sizes: Items<TypeSize>,
+    tables: &'a Declarations<'a>,
+    sizes: &'a [TypeSize],
 }
 
 impl<'a> Model for Types<'a> {
@@ -43,13 +43,16 @@ impl<'a> Model for Types<'a> {
 
     ghost Value = { Typed };
 
-    ghost view = { λ t. record { gathered = t.tables.gathered.now; foreign = t.tables.foreign.now } };
+    ghost view = { λ t. record { gathered = t.tables.now.gathered.now; foreign = t.tables.now.foreign.now } };
 
-    ghost invariant = { λ t. AreTypes t.tables t.sizes };
+    ghost invariant = { λ t. AreTypes t.tables.now t.sizes.now };
 }
 
 /// The sizes of the declared types, or the fault of the first one that has one.
-fn clean_sizes(alloc: Global, tables: &Declarations) -> Result<Items<TypeSize>, LayoutFault>
+pub(crate) fn clean_sizes(
+    alloc: Global,
+    tables: &Declarations,
+) -> Result<Items<TypeSize>, LayoutFault>
     requires { IsDeclarations tables.now }
     ensures types { IfOk result (AreTypes tables.now) }
     ensures fault { IfErr result (λ e. (e ≡ LayoutFault.Memory → ⊥) → FaultAmong (IsCleanType tables.now.gathered.now tables.now.foreign.now) (TypeFault tables.now.gathered.now tables.now.foreign.now) (types_of tables.now.gathered.now) e) }
@@ -60,19 +63,12 @@ fn clean_sizes(alloc: Global, tables: &Declarations) -> Result<Items<TypeSize>, 
 }
 
 impl<'a> Types<'a> {
-    /// The types, or the fault of the first one that has one.
-    pub(crate) fn new(
-        alloc: Global,
-        gathered: &'a Gathered,
-        foreign: &'a ForeignTypes,
-    ) -> Result<Types<'a>, LayoutFault>
-        ensures types { IfOk result (λ t. t ≡ record { gathered = gathered.now; foreign = foreign.now }) }
-        ensures clean { IfOk result (λ _. All (IsCleanType gathered.now foreign.now) (types_of gathered.now)) }
-        ensures fault { IfErr result (λ e. (e ≡ LayoutFault.Memory → ⊥) → FaultAmong (IsCleanType gathered.now foreign.now) (TypeFault gathered.now foreign.now) (types_of gathered.now) e) }
+    /// The types in these tables, of these sizes.
+    pub(crate) fn new(tables: &'a Declarations<'a>, sizes: &'a [TypeSize]) -> Types<'a>
+        requires { AreTypes tables.now sizes.now }
+        ensures { result ≡ record { gathered = tables.now.gathered.now; foreign = tables.now.foreign.now } }
     {
-        let tables = Declarations::new(alloc, gathered, foreign)?;
-        let sizes = clean_sizes(alloc, &tables)?;
-        Ok(Types { tables, sizes })
+        Types { tables, sizes }
     }
 
     /// The gathered files.
@@ -86,14 +82,14 @@ impl<'a> Types<'a> {
     pub(crate) fn meant(&self, base: &Base) -> Meant
         ensures { IsMeant self.now.gathered self.now.foreign base.now result }
     {
-        meant_in(&self.tables, self.sizes.as_slice(), base)
+        meant_in(self.tables, self.sizes, base)
     }
 
     /// The size and the alignment of the type of this bare name, where they are known.
     pub(crate) fn extent_named(&self, name: &[u8]) -> Option<Extent>
         ensures { IsExtent self.now.gathered self.now.foreign (bare_meaning self.now.gathered self.now.foreign name.now) result }
     {
-        extent_in(&self.tables, self.sizes.as_slice(), name)
+        extent_in(self.tables, self.sizes, name)
     }
 
     /// The declaration of the first type of this name.

@@ -1,4 +1,4 @@
-use Rattle.edl_layout.proofs.Judging.{apart_at, itself_or_before}
+use Rattle.edl_layout.proofs.Judging.{apart_at}
 use Rattle.edl_layout.proofs.faults.is_itself.Goals as goal
 
 pub returns-in_default : goal.returns-in_default

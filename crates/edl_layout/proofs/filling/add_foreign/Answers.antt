@@ -1,4 +1,4 @@
-use Rattle.std.proofs.Common.{List, length, ◌∙◌, sym, ap, subst, Some}
+use Rattle.std.proofs.Common.{List, length, ◌∙◌, sym, ap, subst}
 use Rattle.std.specs.Str.{bytes_eq}
 use Rattle.std.proofs.lemmas.Option.{same_Some, slice_get-get_or}
 use Rattle.edl_layout.specs.declared.ForeignType.{ForeignType}

@@ -1,9 +1,8 @@
-use Rattle.std.proofs.Common.{Some, None, ◌∙◌, ap, subst, sym}
+use Rattle.std.proofs.Common.{◌∙◌, sym}
 use Rattle.std.proofs.lemmas.Result.{IfOk-weaker}
 use Rattle.edl_grammar.specs.Files.{types_of}
 use Rattle.edl_layout.specs.Filled.{Covers, CoversAt}
 use Rattle.edl_layout.specs.Meaning.{is_named}
-use Rattle.edl_layout.specs.Named.{is_name}
 use Rattle.edl_layout.proofs.Covering.{covers_name}
 use Rattle.edl_layout.proofs.filling.add_numbered.Goals as goal
 

@@ -1,9 +1,7 @@
-use Rattle.std.proofs.Common.{List, ℕ, sym}
 use Rattle.std.proofs.lemmas.Result.{IfOk-weaker}
 use Rattle.edl_layout.specs.Filled.{AreOffsets, HasOffsets}
 use Rattle.edl_layout.specs.Meaning.{bare_meaning, HasShape}
 use Rattle.edl_layout.specs.Shape.{Shape}
-use Rattle.edl_layout.proofs.Growing.{mapped}
 use Rattle.edl_layout.proofs.Pushing.{unmapped}
 use Rattle.edl_layout.proofs.Covering.{offsets_declared, offsets_undeclared}
 use Rattle.edl_layout.proofs.filling.offsets_named.Goals as goal

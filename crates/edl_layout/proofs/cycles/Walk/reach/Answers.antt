@@ -1,6 +1,6 @@
-use Rattle.std.proofs.Common.{List, Bool, refl, sym, ◌∙◌, ap, Some}
+use Rattle.std.proofs.Common.{List, Bool, sym, ◌∙◌, ap, Some}
 use Rattle.std.specs.Prelude.{slice_get}
-use Rattle.edl_layout.proofs.Walking.{gone_none, gone_marked, gone_new}
+use Rattle.edl_layout.proofs.Walking.{gone_new}
 use Rattle.edl_layout.proofs.cycles.Walk.reach.Goals as goal
 
 pub returns : goal.returns

@@ -1,4 +1,4 @@
-use Rattle.std.proofs.Common.{List, ◌∙◌, ◌∷◌, [], ap, subst, arith}
+use Rattle.std.proofs.Common.{List, ◌∙◌, ◌∷◌, [], subst, arith}
 use Rattle.edl_grammar.specs.declared.Declared.{Declared}
 use Rattle.edl_layout.specs.Walks.{HasGone}
 use Rattle.edl_layout.proofs.Walking.{gone_nowhere, gone_next}

@@ -1,4 +1,4 @@
-use Rattle.std.proofs.Common.{Some, None, ap, sym, ◌∙◌, subst}
+use Rattle.std.proofs.Common.{Some, ap, sym, ◌∙◌, subst}
 use Rattle.edl_grammar.specs.Files.{types_of}
 use Rattle.edl_layout.specs.Meaning.{Meaning}
 use Rattle.edl_layout.specs.Targets.{IsTarget}

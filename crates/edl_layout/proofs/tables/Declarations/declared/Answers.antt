@@ -1,4 +1,4 @@
-use Rattle.std.proofs.Common.{ap, sym, Option, Some, None, option_map, ◌∙◌}
+use Rattle.std.proofs.Common.{ap, sym, Some, None, option_map, ◌∙◌}
 use Rattle.std.proofs.lemmas.Option.{slice_get_within}
 use Rattle.edl_grammar.specs.Files.{TypeIn, types_of}
 use Rattle.edl_layout.specs.Named.{is_under}

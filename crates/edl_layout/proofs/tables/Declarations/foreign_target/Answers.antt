@@ -1,4 +1,4 @@
-use Rattle.std.proofs.Common.{Some, ap, sym}
+use Rattle.std.proofs.Common.{ap, sym}
 use Rattle.std.specs.Prelude.{true, false}
 use Rattle.edl_layout.specs.Targets.{fixed_shape}
 use Rattle.edl_layout.proofs.Naming.{foreign_known, foreign_there, foreign_unknown}

@@ -1,6 +1,5 @@
-use Rattle.std.proofs.Common.{◌≡◌, ap, ◌∙◌}
+use Rattle.std.proofs.Common.{ap, ◌∙◌}
 use Rattle.edl_grammar.specs.declared.TypeDecl.{TypeDecl}
-use Rattle.edl_grammar.specs.Files.{TypeIn}
 use Rattle.edl_layout.specs.Meaning.{is_named}
 use Rattle.edl_layout.proofs.tables.Declarations.name_at.Goals as goal
 

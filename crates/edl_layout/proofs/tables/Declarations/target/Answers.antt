@@ -1,5 +1,4 @@
-use Rattle.std.proofs.Common.{Some, None, ap, sym, ◌∙◌, subst, List, ℕ}
-use Rattle.edl_layout.specs.Meaning.{meaning}
+use Rattle.std.proofs.Common.{sym}
 use Rattle.edl_layout.proofs.Naming.{declared_tagged, undeclared_tagged}
 use Rattle.edl_layout.proofs.tables.Declarations.target.Goals as goal
 

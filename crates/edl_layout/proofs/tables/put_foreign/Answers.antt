@@ -1,13 +1,13 @@
-use Rattle.std.proofs.Common.{◌≡◌, ◌-◌, cond, drop, get_or, refl, sym, ◌∙◌, ap, Option, Some, None, arith, ℕ, List}
+use Rattle.std.proofs.Common.{◌≡◌, ◌-◌, cond, drop, get_or, sym, ◌∙◌, ap, Option, Some, arith, ℕ, List}
 use Rattle.std.specs.Str.{bytes_eq}
 use Rattle.std.specs.Map.{lookup}
 use Rattle.edl_layout.specs.declared.ForeignType.{ForeignType}
 use Rattle.edl_layout.specs.Named.{first_from}
 use Rattle.edl_layout.proofs.Naming.{first_past, table_step}
-use Rattle.edl_layout.proofs.tables.first_foreign.Goals as goal
+use Rattle.edl_layout.proofs.tables.put_foreign.Goals as goal
 
 pub loop-i-init : goal.loop-i-init
-loop-i-init c = λ name. rw c.new-table.ensures.empty (sym (first_past (λ (t : ForeignType). bytes_eq t.name name.now) _ c.args.types.now))
+loop-i-init c = λ name. rw c.requires (sym (first_past (λ (t : ForeignType). bytes_eq t.name name.now) _ c.args.types.now))
 
 pub loop-i-preserved : goal.loop-i-preserved
 loop-i-preserved c = λ name.

@@ -1,13 +1,13 @@
-use Rattle.std.proofs.Common.{◌≡◌, ◌<◌, ◌≤◌, List, ◌++◌, map, length, get_or, refl, sym, ◌∙◌, ap, subst, arith}
+use Rattle.std.proofs.Common.{◌≡◌, ◌<◌, ◌≤◌, List, ◌++◌, map, length, get_or, refl, ◌∙◌, ap, subst, arith}
 use Rattle.edl_grammar.specs.declared.SourceFile.{SourceFile}
 use Rattle.edl_grammar.specs.declared.TypeDecl.{TypeDecl}
 use Rattle.edl_grammar.specs.Files.{types_of}
 use Rattle.edl_layout.specs.Named.{seen}
 use Rattle.edl_layout.proofs.Flat.{in_file, flat_next, flat_all}
-use Rattle.edl_layout.proofs.tables.types_in.Goals as goal
+use Rattle.edl_layout.proofs.tables.push_all.Goals as goal
 
 pub loop-i-init : goal.loop-i-init
-loop-i-init c = rw c.new-types.ensures.items refl
+loop-i-init c = rw c.requires refl
 
 pub loop-i-preserved : goal.loop-i-preserved
 loop-i-preserved c =

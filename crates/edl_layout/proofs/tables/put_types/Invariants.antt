@@ -3,7 +3,7 @@ use Rattle.std.specs.Str.{bytes_eq}
 use Rattle.std.specs.Map.{lookup}
 use denote.Ref.{Bor}
 use Rattle.edl_layout.specs.Named.{seen, is_under, first_from}
-use Rattle.edl_layout.proofs.tables.first_types.Given as goal
+use Rattle.edl_layout.proofs.tables.put_types.Given as goal
 
 abbrev pub invariant-loop-i : goal.invariant-loop-i
 invariant-loop-i l =

@@ -1,13 +1,13 @@
-use Rattle.std.proofs.Common.{◌≡◌, ◌-◌, cond, drop, get_or, refl, sym, ◌∙◌, ap, Option, Some, None, ℕ, arith}
+use Rattle.std.proofs.Common.{◌≡◌, ◌-◌, cond, drop, get_or, sym, ◌∙◌, ap, Option, Some, ℕ, arith}
 use Rattle.std.specs.Str.{bytes_eq}
 use Rattle.std.specs.Map.{lookup}
 use Rattle.edl_layout.specs.declared.tables.TypeAt.{TypeAt}
 use Rattle.edl_layout.specs.Named.{seen, is_under, first_from}
 use Rattle.edl_layout.proofs.Naming.{first_past, first_map, table_step}
-use Rattle.edl_layout.proofs.tables.first_types.Goals as goal
+use Rattle.edl_layout.proofs.tables.put_types.Goals as goal
 
 pub loop-i-init : goal.loop-i-init
-loop-i-init c = λ name. rw c.new-table.ensures.empty (sym (first_past (λ (t : TypeAt). is_under c.args.tag name.now (seen t)) _ c.args.types.now))
+loop-i-init c = λ name. rw c.requires (sym (first_past (λ (t : TypeAt). is_under c.args.tag name.now (seen t)) _ c.args.types.now))
 
 pub loop-i-preserved-in_ok-insert : goal.loop-i-preserved-in_ok-insert
 loop-i-preserved-in_ok-insert c = λ name.

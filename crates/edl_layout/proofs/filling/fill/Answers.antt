@@ -5,7 +5,7 @@ use Rattle.edl_layout.specs.declared.NamedShape.{NamedShape}
 use Rattle.edl_layout.specs.Filled.{IsSound}
 use Rattle.edl_layout.specs.Meaning.{Standard, is_named, standard_types}
 use Rattle.edl_layout.proofs.Covering.{sound_none, covers_grown, grows_on, is_table}
-use Rattle.edl_layout.proofs.filling.table_of.Goals as goal
+use Rattle.edl_layout.proofs.filling.fill.Goals as goal
 
 pub returns : goal.returns
 returns c =
@@ -16,7 +16,7 @@ returns c =
     let whole = c.add_foreign.new.table in
     let standard_grows = c.in_ok-add_standard.ensures.grows in
     let foreign_grows = c.in_ok-add_foreign.ensures.grows in
-    let sound : IsSound g foreign c.new-table.result = subst (λ (t : List NamedShape). IsSound g foreign t) (sym c.new-table.ensures) (sound_none g foreign) in
+    let sound : IsSound g foreign c.args.table.now = subst (λ (t : List NamedShape). IsSound g foreign t) (sym c.requires) (sound_none g foreign) in
     is_table g foreign whole
     (covers_grown g foreign is_named (types_of g) (length (types_of g)) first whole (grows_on g foreign first second whole standard_grows foreign_grows) c.in_ok-add_declared.ensures.covers)
     (covers_grown g foreign (λ name (s : Standard). bytes_eq s.name name) standard_types (length standard_types) second whole foreign_grows c.in_ok-add_standard.ensures.covers)
