@@ -23,7 +23,8 @@ pub(crate) fn checked_little_endian(bytes: &[u8]) -> Option<u64>
 
 /// The product of two numbers, where None stands for any number of more than 64 bits.
 pub(crate) fn product(first: Option<u64>, second: Option<u64>) -> Option<u64>
-    ensures { (x y : ℕ) → SomeIff first (x < 2 ^ 64) x → SomeIff second (y < 2 ^ 64) y → SomeIff result (x * y < 2 ^ 64) (x * y) }
+    ensures { (x y : ℕ) → SomeIff first (x < 2 ^ 64) x → SomeIff second (y < 2 ^ 64) y
+        → SomeIff result (x * y < 2 ^ 64) (x * y) }
 {
     match (first, second) {
         (Some(0), _) | (_, Some(0)) => Some(0),

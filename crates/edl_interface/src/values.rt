@@ -173,7 +173,8 @@ impl Function {
 
     /// The bytes that a marshalled parameter points to, or None where they are 2^64 or more.
     pub fn length(&self, frame: &[u8], param: &Param) -> Option<u64>
-        ensures { SomeIff result (length_in self.now frame.now param.now < 2 ^ 64) (length_in self.now frame.now param.now) }
+        ensures { SomeIff result (length_in self.now frame.now param.now < 2 ^ 64)
+            (length_in self.now frame.now param.now) }
     {
         match param.class {
             Class::Buffer { size, count, .. } => product(
@@ -190,9 +191,10 @@ impl Function {
         }
     }
 
-    /// The bytes that a marshalled parameter is copied at, 0 where its pointer is null, or None where they are 2^64 or more.
+    /// The bytes that a marshalled parameter is copied at, 0 where its pointer is null, or None for 2^64 or more.
     pub fn copied_length(&self, frame: &[u8], param: &Param) -> Option<u64>
-        ensures { SomeIff result (copied_length_of self.now frame.now param.now < 2 ^ 64) (copied_length_of self.now frame.now param.now) }
+        ensures { SomeIff result (copied_length_of self.now frame.now param.now < 2 ^ 64)
+            (copied_length_of self.now frame.now param.now) }
     {
         if param.address(frame) == 0 {
             Some(0)
