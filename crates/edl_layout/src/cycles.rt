@@ -41,7 +41,8 @@ impl Walk {
     fn reach(&mut self, tables: &Declarations, member: &Declared) -> Result<(), AllocError>
         requires tables { IsDeclarations tables.now }
         requires count { length self.old.reached ≡ length (types_of tables.now.gathered.now) }
-        ensures { IfOk result (λ _. HasGone tables.now.gathered.now tables.now.foreign.now (member.now ∷ []) self.old self.new) }
+        ensures { IfOk result (λ _. HasGone tables.now.gathered.now tables.now.foreign.now (member.now ∷ []) self.old
+            self.new) }
     {
         let Some(number) = tables.held(&member.written) else {
             return Ok(());
@@ -58,7 +59,8 @@ impl Walk {
     fn reach_all(&mut self, tables: &Declarations, members: &[Declared]) -> Result<(), AllocError>
         requires tables { IsDeclarations tables.now }
         requires count { length self.old.reached ≡ length (types_of tables.now.gathered.now) }
-        ensures { IfOk result (λ _. HasGone tables.now.gathered.now tables.now.foreign.now members.now self.old self.new) }
+        ensures { IfOk result (λ _. HasGone tables.now.gathered.now tables.now.foreign.now members.now self.old
+            self.new) }
     {
         for member in members {
             self.reach(tables, member)?;
@@ -70,7 +72,8 @@ impl Walk {
     fn go(&mut self, tables: &Declarations, number: usize) -> Result<(), AllocError>
         requires tables { IsDeclarations tables.now }
         requires within { number < length (types_of tables.now.gathered.now) }
-        requires nowhere { self.old ≡ record { reached = replicate (length (types_of tables.now.gathered.now)) false; work = [] } }
+        requires nowhere { self.old
+            ≡ record { reached = replicate (length (types_of tables.now.gathered.now)) false; work = [] } }
         ensures { IfOk result (λ _. HasWalked tables.now.gathered.now tables.now.foreign.now number self.new) }
     {
         self.reach_all(tables, members_of(tables.decl_at(number)))?;
@@ -81,7 +84,7 @@ impl Walk {
     }
 }
 
-/// Whether the type of this number holds itself, itself or through others, where none before it that is the same type does.
+/// Whether the type of this number holds itself, itself or through others, where no same type before it does.
 pub(crate) fn holds_itself(
     alloc: Global,
     tables: &Declarations,

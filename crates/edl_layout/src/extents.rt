@@ -97,7 +97,8 @@ impl FieldEnds {
     /// The structure with these fields.
     pub fn extent(&self) -> Extent
         requires { bytes.round_up self.now.end self.now.align < 2 ^ 32 }
-        ensures { shape_at result ≡ record { size = bytes.round_up self.now.end self.now.align; align = self.now.align } }
+        ensures { shape_at result
+            ≡ record { size = bytes.round_up self.now.end self.now.align; align = self.now.align } }
     {
         Extent {
             size: self.size() as u32,
@@ -106,11 +107,15 @@ impl FieldEnds {
     }
 }
 
-/// One field behind the other: what is pushed in order has the ends of the whole list, the size of its structure, and the offsets that it has there.
+/// One field behind the other: what is pushed in order has the ends of the whole list, the size of its structure, and
+/// the offsets that it has there.
 pub fn ends_of_fields()
     ensures ends { (ss : List Shape) → fold ends_after (ends_of []) ss ≡ ends_of ss }
     ensures more { (ss : List Shape) (s : Shape) → ends_after (ends_of ss) s ≡ ends_of (ss ++ s ∷ []) }
-    ensures offset { (ss : List Shape) (s : Shape) → kept (bytes.round_up (ends_of ss).end s.align) ≡ kept (bytes.round_up (end_of 0 ss) s.align) }
-    ensures offsets { (ss : List Shape) (s : Shape) → offsets (ss ++ s ∷ []) ≡ offsets ss ++ bytes.round_up (end_of 0 ss) s.align ∷ [] }
-    ensures size { (ss : List Shape) → kept (bytes.round_up (ends_of ss).end (ends_of ss).align) ≡ kept (structure_shape ss).size }
+    ensures offset { (ss : List Shape) (s : Shape) → kept (bytes.round_up (ends_of ss).end s.align)
+        ≡ kept (bytes.round_up (end_of 0 ss) s.align) }
+    ensures offsets { (ss : List Shape) (s : Shape) → offsets (ss ++ s ∷ [])
+        ≡ offsets ss ++ bytes.round_up (end_of 0 ss) s.align ∷ [] }
+    ensures size { (ss : List Shape) → kept (bytes.round_up (ends_of ss).end (ends_of ss).align)
+        ≡ kept (structure_shape ss).size }
 {}

@@ -85,7 +85,8 @@ fn is_itself(
     requires tables { IsDeclarations tables.now }
     requires sizes { AreSizes tables.now.gathered.now tables.now.foreign.now sizes.now }
     requires within { number < length (types_of tables.now.gathered.now) }
-    requires before { Below tables.now.gathered.now tables.now.foreign.now (IsApart tables.now.gathered.now tables.now.foreign.now) number }
+    requires before { Below tables.now.gathered.now tables.now.foreign.now
+        (IsApart tables.now.gathered.now tables.now.foreign.now) number }
     ensures { IfOk result (TellsItself tables.now.gathered.now tables.now.foreign.now number) }
 {
     match size_at(sizes, number) {
@@ -136,9 +137,13 @@ fn check_type(
     requires sizes { AreSizes tables.now.gathered.now tables.now.foreign.now sizes.now }
     requires settled { AreSettled tables.now.gathered.now tables.now.foreign.now sizes.now }
     requires within { number < length (types_of tables.now.gathered.now) }
-    requires before { Below tables.now.gathered.now tables.now.foreign.now (spec.IsCleanType tables.now.gathered.now tables.now.foreign.now) number }
-    ensures clean { OnOk result (At tables.now.gathered.now tables.now.foreign.now (spec.IsCleanType tables.now.gathered.now tables.now.foreign.now) number) }
-    ensures fault { IfErr result (λ e. (e ≡ LayoutFault.Memory → ⊥) → At tables.now.gathered.now tables.now.foreign.now (λ t. spec.TypeFault tables.now.gathered.now tables.now.foreign.now t e) number) }
+    requires before { Below tables.now.gathered.now tables.now.foreign.now
+        (spec.IsCleanType tables.now.gathered.now tables.now.foreign.now) number }
+    ensures clean { OnOk result (At tables.now.gathered.now tables.now.foreign.now
+        (spec.IsCleanType tables.now.gathered.now tables.now.foreign.now) number) }
+    ensures fault { IfErr result (λ e. (e ≡ LayoutFault.Memory → ⊥)
+        → At tables.now.gathered.now tables.now.foreign.now
+        (λ t. spec.TypeFault tables.now.gathered.now tables.now.foreign.now t e) number) }
 {
     let itself = is_itself(alloc, tables, sizes, number)?;
     match type_fault(tables, sizes, number, itself) {
@@ -156,8 +161,11 @@ pub(crate) fn check_types(
     requires tables { IsDeclarations tables.now }
     requires sizes { AreSizes tables.now.gathered.now tables.now.foreign.now sizes.now }
     requires settled { AreSettled tables.now.gathered.now tables.now.foreign.now sizes.now }
-    ensures clean { OnOk result (All (spec.IsCleanType tables.now.gathered.now tables.now.foreign.now) (types_of tables.now.gathered.now)) }
-    ensures fault { IfErr result (λ e. (e ≡ LayoutFault.Memory → ⊥) → spec.FaultAmong (spec.IsCleanType tables.now.gathered.now tables.now.foreign.now) (spec.TypeFault tables.now.gathered.now tables.now.foreign.now) (types_of tables.now.gathered.now) e) }
+    ensures clean { OnOk result (All (spec.IsCleanType tables.now.gathered.now tables.now.foreign.now)
+        (types_of tables.now.gathered.now)) }
+    ensures fault { IfErr result (λ e. (e ≡ LayoutFault.Memory → ⊥)
+        → spec.FaultAmong (spec.IsCleanType tables.now.gathered.now tables.now.foreign.now)
+        (spec.TypeFault tables.now.gathered.now tables.now.foreign.now) (types_of tables.now.gathered.now) e) }
 {
     for number in 0..tables.count() {
         check_type(alloc, tables, sizes, number)?;

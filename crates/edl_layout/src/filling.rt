@@ -36,7 +36,10 @@ fn standard_names() -> [&'static [u8]; 10]
 
 /// The offsets of the members of the type of this name, where it has a shape.
 fn offsets_named(alloc: Global, types: &Types, name: &[u8]) -> Result<Items<u32>, AllocError>
-    ensures { IfOk result (λ o. (s : Shape) → HasShape types.now.gathered types.now.foreign (bare_meaning types.now.gathered types.now.foreign name.now) s → HasOffsets types.now.gathered types.now.foreign (bare_meaning types.now.gathered types.now.foreign name.now) o) }
+    ensures { IfOk result (λ o. (s : Shape)
+        → HasShape types.now.gathered types.now.foreign (bare_meaning types.now.gathered types.now.foreign name.now) s
+        → HasOffsets types.now.gathered types.now.foreign (bare_meaning types.now.gathered types.now.foreign name.now)
+        o) }
 {
     match types.declared(name) {
         Some(decl) => offsets_of(alloc, types, decl),
@@ -53,7 +56,8 @@ fn put(
     extent: Extent,
 ) -> Result<(), AllocError>
     requires missing { entry table.old name.now ≡ None }
-    requires shape { HasShape types.now.gathered types.now.foreign (bare_meaning types.now.gathered types.now.foreign name.now) (shape_at extent) }
+    requires shape { HasShape types.now.gathered types.now.foreign
+        (bare_meaning types.now.gathered types.now.foreign name.now) (shape_at extent) }
     ensures grows { IfOk result (λ _. Grows types.now.gathered types.now.foreign table.old table.new) }
     ensures covers { IfOk result (λ _. Covers types.now.gathered types.now.foreign table.new name.now) }
 {
@@ -84,7 +88,8 @@ fn add_numbered(
 ) -> Result<(), AllocError>
     requires { number < length (types_of types.now.gathered) }
     ensures grows { IfOk result (λ _. Grows types.now.gathered types.now.foreign table.old table.new) }
-    ensures covers { IfOk result (λ _. CoversAt types.now.gathered types.now.foreign is_named (types_of types.now.gathered) number table.new) }
+    ensures covers { IfOk result (λ _. CoversAt types.now.gathered types.now.foreign is_named
+        (types_of types.now.gathered) number table.new) }
 {
     match types.name_at(number) {
         Some(name) => add(alloc, types, table, name),
@@ -95,7 +100,8 @@ fn add_numbered(
 /// Sees to it that the declared types are in the table, where they have a name and a shape.
 fn add_declared(alloc: Global, types: &Types, table: &mut Layouts) -> Result<(), AllocError>
     ensures grows { IfOk result (λ _. Grows types.now.gathered types.now.foreign table.old table.new) }
-    ensures covers { IfOk result (λ _. CoversFirst types.now.gathered types.now.foreign is_named (types_of types.now.gathered) (length (types_of types.now.gathered)) table.new) }
+    ensures covers { IfOk result (λ _. CoversFirst types.now.gathered types.now.foreign is_named
+        (types_of types.now.gathered) (length (types_of types.now.gathered)) table.new) }
 {
     for number in 0..types.count() {
         add_numbered(alloc, types, table, number)?;
@@ -111,7 +117,8 @@ fn add_names(
     names: &[&[u8]],
 ) -> Result<(), AllocError>
     ensures grows { IfOk result (λ _. Grows types.now.gathered types.now.foreign table.old table.new) }
-    ensures covers { IfOk result (λ _. CoversFirst types.now.gathered types.now.foreign (λ name n. bytes_eq n.now name) names.now (length names.now) table.new) }
+    ensures covers { IfOk result (λ _. CoversFirst types.now.gathered types.now.foreign
+        (λ name n. bytes_eq n.now name) names.now (length names.now) table.new) }
 {
     for i in 0..names.len() {
         add(alloc, types, table, names[i])?;
@@ -122,7 +129,8 @@ fn add_names(
 /// Sees to it that the standard types are in the table.
 fn add_standard(alloc: Global, types: &Types, table: &mut Layouts) -> Result<(), AllocError>
     ensures grows { IfOk result (λ _. Grows types.now.gathered types.now.foreign table.old table.new) }
-    ensures covers { IfOk result (λ _. CoversFirst types.now.gathered types.now.foreign (λ name s. bytes_eq s.name name) standard_types (length standard_types) table.new) }
+    ensures covers { IfOk result (λ _. CoversFirst types.now.gathered types.now.foreign
+        (λ name s. bytes_eq s.name name) standard_types (length standard_types) table.new) }
 {
     let names = standard_names();
     add_names(alloc, types, table, names.as_slice())
@@ -131,7 +139,8 @@ fn add_standard(alloc: Global, types: &Types, table: &mut Layouts) -> Result<(),
 /// Sees to it that the foreign types are in the table.
 fn add_foreign(alloc: Global, types: &Types, table: &mut Layouts) -> Result<(), AllocError>
     ensures grows { IfOk result (λ _. Grows types.now.gathered types.now.foreign table.old table.new) }
-    ensures covers { IfOk result (λ _. CoversFirst types.now.gathered types.now.foreign (λ name t. bytes_eq t.name name) types.now.foreign.types (length types.now.foreign.types) table.new) }
+    ensures covers { IfOk result (λ _. CoversFirst types.now.gathered types.now.foreign
+        (λ name t. bytes_eq t.name name) types.now.foreign.types (length types.now.foreign.types) table.new) }
 {
     for foreign in types.foreign_types() {
         add(alloc, types, table, foreign.name.bytes())?;

@@ -79,7 +79,8 @@ fn known(meant: Meant) -> Option<Extent>
 
 /// The size and the alignment of a type, where they are known.
 pub(crate) fn extent_of(types: &Types, written: &Written) -> Option<Extent>
-    ensures { Settles (λ n. frame.plain_shape types.now.gathered types.now.foreign n written.now) (option_map shape_at result) }
+    ensures { Settles (λ n. frame.plain_shape types.now.gathered types.now.foreign n written.now)
+        (option_map shape_at result) }
 {
     if written.stars > 0 {
         Some(Extent::ADDRESS)
@@ -116,7 +117,8 @@ fn with_field(mut ends: FieldEnds, field: Option<Extent>) -> Option<FieldEnds>
 }
 
 fn field_of(types: &Types, declared: &Declared) -> Option<Extent>
-    ensures { Settles (λ n. frame.field_shape (frame.plain_shape types.now.gathered types.now.foreign n) declared.now) (option_map shape_at result) }
+    ensures { Settles (λ n. frame.field_shape (frame.plain_shape types.now.gathered types.now.foreign n) declared.now)
+        (option_map shape_at result) }
 {
     if has_address(declared) {
         Some(Extent::ADDRESS)
@@ -132,7 +134,8 @@ fn with_param(
     declared: &Declared,
     ends: FieldEnds,
 ) -> Option<FieldEnds>
-    ensures { Pushes (λ n. frame.param_fields (frame.plain_shape types.now.gathered types.now.foreign n) is_trusted declared.now) ends result }
+    ensures { Pushes (λ n. frame.param_fields (frame.plain_shape types.now.gathered types.now.foreign n) is_trusted
+        declared.now) ends result }
 {
     let ends = with_field(ends, field_of(types, declared))?;
     if is_measured(is_trusted, declared) {
@@ -149,7 +152,8 @@ fn with_params(
     params: &[Declared],
     mut ends: FieldEnds,
 ) -> Option<FieldEnds>
-    ensures { Pushes (λ n. flat_map (frame.param_fields (frame.plain_shape types.now.gathered types.now.foreign n) is_trusted) params.now) ends result }
+    ensures { Pushes (λ n. flat_map (frame.param_fields (frame.plain_shape types.now.gathered types.now.foreign n)
+        is_trusted) params.now) ends result }
 {
     for param in params {
         ends = with_param(types, is_trusted, param, ends)?;
@@ -159,7 +163,8 @@ fn with_params(
 
 /// The ends of what a function returns.
 fn result_ends(types: &Types, written: &Written) -> Option<FieldEnds>
-    ensures { Pushes (λ n. frame.result_fields (frame.plain_shape types.now.gathered types.now.foreign n) written.now) (ends_of []) result }
+    ensures { Pushes (λ n. frame.result_fields (frame.plain_shape types.now.gathered types.now.foreign n) written.now)
+        (ends_of []) result }
 {
     let ends = FieldEnds::new();
     if is_returning(written) {
@@ -171,7 +176,8 @@ fn result_ends(types: &Types, written: &Written) -> Option<FieldEnds>
 
 /// The ends of a marshalling structure, where all its types are known.
 fn frame_ends(types: &Types, is_trusted: bool, decl: &FuncDecl) -> Option<FieldEnds>
-    ensures { Pushes (λ n. frame.frame_fields (frame.plain_shape types.now.gathered types.now.foreign n) (record { file = 0; is_trusted = is_trusted; decl = decl.now })) (ends_of []) result }
+    ensures { Pushes (λ n. frame.frame_fields (frame.plain_shape types.now.gathered types.now.foreign n)
+        (record { file = 0; is_trusted = is_trusted; decl = decl.now })) (ends_of []) result }
 {
     let ends = result_ends(types, &decl.result)?;
     with_params(types, is_trusted, decl.params.as_slice(), ends)
@@ -179,7 +185,9 @@ fn frame_ends(types: &Types, is_trusted: bool, decl: &FuncDecl) -> Option<FieldE
 
 /// Whether a marshalling structure is known and too large.
 pub(crate) fn is_frame_too_large(types: &Types, is_trusted: bool, decl: &FuncDecl) -> bool
-    ensures { (file : ℕ) → IsFrameTest types.now.gathered types.now.foreign (record { file = file; is_trusted = is_trusted; decl = decl.now }) result }
+    ensures { (file : ℕ)
+        → IsFrameTest types.now.gathered types.now.foreign
+        (record { file = file; is_trusted = is_trusted; decl = decl.now }) result }
 {
     match frame_ends(types, is_trusted, decl) {
         Some(ends) => ends.size() > MAX_FRAME,

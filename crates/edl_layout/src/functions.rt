@@ -44,7 +44,8 @@ fn is_long_array(types: &Types, declared: &Declared) -> bool
 
 /// The fault of a parameter: its type, and then the length of an array.
 fn param_fault(types: &Types, file: u32, declared: &Declared) -> Option<LayoutFault>
-    ensures { MatchOption result (faults.IsCleanParam types.now.gathered types.now.foreign declared.now) (faults.ParamFault types.now.gathered types.now.foreign file declared.now) }
+    ensures { MatchOption result (faults.IsCleanParam types.now.gathered types.now.foreign declared.now)
+        (faults.ParamFault types.now.gathered types.now.foreign file declared.now) }
 {
     if is_no_value(types, &declared.written) {
         Some(unknown_at(types.gathered(), file, declared.written.token))
@@ -57,7 +58,8 @@ fn param_fault(types: &Types, file: u32, declared: &Declared) -> Option<LayoutFa
 
 /// The fault of the first parameter that has one.
 fn params_fault(types: &Types, file: u32, params: &[Declared]) -> Option<LayoutFault>
-    ensures { Checked (faults.IsCleanParam types.now.gathered types.now.foreign) (faults.ParamFault types.now.gathered types.now.foreign file) params.now result }
+    ensures { Checked (faults.IsCleanParam types.now.gathered types.now.foreign)
+        (faults.ParamFault types.now.gathered types.now.foreign file) params.now result }
 {
     for param in params {
         if let Some(fault) = param_fault(types, file, param) {
@@ -69,7 +71,8 @@ fn params_fault(types: &Types, file: u32, params: &[Declared]) -> Option<LayoutF
 
 /// The fault of a marshalling structure.
 fn frame_fault(types: &Types, file: u32, is_trusted: bool, decl: &FuncDecl) -> Option<LayoutFault>
-    ensures { IsFrameFault types.now.gathered types.now.foreign (record { file = file; is_trusted = is_trusted; decl = decl.now }) result }
+    ensures { IsFrameFault types.now.gathered types.now.foreign
+        (record { file = file; is_trusted = is_trusted; decl = decl.now }) result }
 {
     if is_frame_too_large(types, is_trusted, decl) {
         Some(too_large_at(types.gathered(), file, decl.token))
@@ -85,7 +88,8 @@ fn function_fault(
     is_trusted: bool,
     decl: &FuncDecl,
 ) -> Option<LayoutFault>
-    ensures { IsFunctionFault types.now.gathered types.now.foreign (record { file = file; is_trusted = is_trusted; decl = decl.now }) result }
+    ensures { IsFunctionFault types.now.gathered types.now.foreign
+        (record { file = file; is_trusted = is_trusted; decl = decl.now }) result }
 {
     if is_unknown(types, &decl.result) {
         return Some(unknown_at(types.gathered(), file, decl.result.token));
@@ -98,7 +102,8 @@ fn function_fault(
 
 /// The function of a pick, where there is one.
 fn picked<'a>(gathered: &'a Gathered, is_trusted: bool, pick: &Pick) -> Option<&'a FuncDecl>
-    ensures { option_map (λ d. record { file = pick.now.file; is_trusted = is_trusted; decl = d }) (option_copied result) ≡ pick_of gathered.now is_trusted pick.now }
+    ensures { option_map (λ d. record { file = pick.now.file; is_trusted = is_trusted; decl = d })
+        (option_copied result) ≡ pick_of gathered.now is_trusted pick.now }
 {
     let file = gathered.files.get(pick.file as usize)?;
     if is_trusted {
@@ -110,7 +115,8 @@ fn picked<'a>(gathered: &'a Gathered, is_trusted: bool, pick: &Pick) -> Option<&
 
 /// The fault of a pick's function, where there is one.
 fn pick_fault(types: &Types, is_trusted: bool, pick: &Pick) -> Option<LayoutFault>
-    ensures { AreCheckedFunctions types.now.gathered types.now.foreign (filter_map (pick_of types.now.gathered is_trusted) (pick.now ∷ [])) result }
+    ensures { AreCheckedFunctions types.now.gathered types.now.foreign
+        (filter_map (pick_of types.now.gathered is_trusted) (pick.now ∷ [])) result }
 {
     match picked(types.gathered(), is_trusted, pick) {
         Some(decl) => function_fault(types, pick.file, is_trusted, decl),
@@ -120,7 +126,8 @@ fn pick_fault(types: &Types, is_trusted: bool, pick: &Pick) -> Option<LayoutFaul
 
 /// The fault of the first function of a side that has one.
 fn side_fault(types: &Types, is_trusted: bool, picks: &[Pick]) -> Option<LayoutFault>
-    ensures { AreCheckedFunctions types.now.gathered types.now.foreign (filter_map (pick_of types.now.gathered is_trusted) picks.now) result }
+    ensures { AreCheckedFunctions types.now.gathered types.now.foreign
+        (filter_map (pick_of types.now.gathered is_trusted) picks.now) result }
 {
     for pick in picks {
         if let Some(fault) = pick_fault(types, is_trusted, pick) {
@@ -132,7 +139,8 @@ fn side_fault(types: &Types, is_trusted: bool, picks: &[Pick]) -> Option<LayoutF
 
 /// The fault of the first function that has one: the trusted ones in order, and then the untrusted ones.
 fn functions_fault(types: &Types) -> Option<LayoutFault>
-    ensures { AreCheckedFunctions types.now.gathered types.now.foreign (faults.functions types.now.gathered types.now.foreign) result }
+    ensures { AreCheckedFunctions types.now.gathered types.now.foreign
+        (faults.functions types.now.gathered types.now.foreign) result }
 {
     let gathered = types.gathered();
     match side_fault(types, true, gathered.trusted.as_slice()) {
@@ -143,8 +151,11 @@ fn functions_fault(types: &Types) -> Option<LayoutFault>
 
 /// Whether all functions are clean, or else the fault of the first that is not.
 pub(crate) fn check_functions(types: &Types) -> Result<(), LayoutFault>
-    ensures ok { OnOk result (All (faults.IsCleanFunction types.now.gathered types.now.foreign) (faults.functions types.now.gathered types.now.foreign)) }
-    ensures err { IfErr result (faults.FaultAmong (faults.IsCleanFunction types.now.gathered types.now.foreign) (faults.FunctionFault types.now.gathered types.now.foreign) (faults.functions types.now.gathered types.now.foreign)) }
+    ensures ok { OnOk result (All (faults.IsCleanFunction types.now.gathered types.now.foreign)
+        (faults.functions types.now.gathered types.now.foreign)) }
+    ensures err { IfErr result (faults.FaultAmong (faults.IsCleanFunction types.now.gathered types.now.foreign)
+        (faults.FunctionFault types.now.gathered types.now.foreign)
+        (faults.functions types.now.gathered types.now.foreign)) }
 {
     match functions_fault(types) {
         Some(fault) => Err(fault),

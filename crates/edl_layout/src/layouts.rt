@@ -54,7 +54,9 @@ impl Layouts {
         offsets: Items<u32>,
     ) -> Result<(), AllocError>
         requires { entry self.old name.now ≡ None }
-        ensures ok { OnOk result (self.new ≡ self.old ++ record { name = name.now; size = extent.size; align = extent.align; offsets = offsets } ∷ []) }
+        ensures ok { OnOk result (self.new
+            ≡ self.old ++ record { name = name.now; size = extent.size; align = extent.align; offsets = offsets }
+            ∷ []) }
         ensures err { OnErr result (self.new ≡ self.old) }
     {
         let name = Vec::from_slice(alloc, name)?;
@@ -63,7 +65,13 @@ impl Layouts {
     }
 
     fn find(&self, name: &[u8]) -> Option<&Layout>
-        ensures { option_map (λ l. record { name = name.now; size = l.extent.size; align = l.extent.align; offsets = l.offsets }) (option_copied result) ≡ entry self.now name.now }
+        ensures { option_map (λ l. record {
+          name = name.now;
+          size = l.extent.size;
+          align = l.extent.align;
+          offsets =
+              l.offsets;
+        }) (option_copied result) ≡ entry self.now name.now }
     {
         self.layouts.get(name)
     }
@@ -89,7 +97,8 @@ impl Layouts {
         Some(self.find(name)?.extent.align)
     }
 
-    /// The offset in bytes of a type's member of this number, or None where there is no such member or its type's size is unknown.
+    /// The offset in bytes of a type's member of this number, or None where there is no such member or its type's size
+    /// is unknown.
     pub fn offset(&self, name: &[u8], member: u32) -> Option<u32>
         ensures { result ≡ offset_in self.now name.now member }
     {

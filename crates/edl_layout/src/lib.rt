@@ -75,8 +75,12 @@ pub struct NamedShape {
 
 /// The layouts where the types are clean, or the fault of the first function that has one.
 fn layout_of_types(alloc: Global, types: &Types) -> Result<Layouts, LayoutFault>
-    ensures ok { IfOk result (λ l. All (faults.IsCleanFunction types.now.gathered types.now.foreign) (faults.functions types.now.gathered types.now.foreign) × IsTable types.now.gathered types.now.foreign l) }
-    ensures fault { IfErr result (λ e. (e ≡ LayoutFault.Memory → ⊥) → faults.FaultAmong (faults.IsCleanFunction types.now.gathered types.now.foreign) (faults.FunctionFault types.now.gathered types.now.foreign) (faults.functions types.now.gathered types.now.foreign) e) }
+    ensures ok { IfOk result (λ l. All (faults.IsCleanFunction types.now.gathered types.now.foreign)
+        (faults.functions types.now.gathered types.now.foreign) × IsTable types.now.gathered types.now.foreign l) }
+    ensures fault { IfErr result (λ e. (e ≡ LayoutFault.Memory → ⊥)
+        → faults.FaultAmong (faults.IsCleanFunction types.now.gathered types.now.foreign)
+        (faults.FunctionFault types.now.gathered types.now.foreign)
+        (faults.functions types.now.gathered types.now.foreign) e) }
 {
     check_functions(types)?;
     let layouts = table_of(alloc, types)?;
@@ -92,10 +96,11 @@ fn layout_of_tables(alloc: Global, tables: &Declarations) -> Result<Layouts, Lay
     layout_of_types(alloc, &Types::new(tables, sizes.as_slice()))
 }
 
-/// The layouts of all types that have a name and a known size, or the first fault: of the types in order of reading, and then of the
-/// trusted and the untrusted functions in order. Faults are `E12` (a type that is not declared), `E13` (a type that holds itself) and
-/// `E14` (a size, a length or an enumerator above 2^31 - 1, or a marshalling structure above 1024 bytes). Memory is wanting also where a
-/// foreign type has the alignment 0, and an offset of a structure around it needs more than 32 bits.
+/// The layouts of all types that have a name and a known size, or the first fault: of the types in order of reading,
+/// and then of the trusted and the untrusted functions in order. Faults are `E12` (a type that is not declared),
+/// `E13` (a type that holds itself) and `E14` (a size, a length or an enumerator above 2^31 - 1, or a marshalling
+/// structure above 1024 bytes). Memory is wanting also where a foreign type has the alignment 0, and an offset of a
+/// structure around it needs more than 32 bits.
 pub fn layout_of(
     alloc: Global,
     gathered: &Gathered,

@@ -1,6 +1,7 @@
 //! The offsets of a type's members.
 //!
-//! They fit below 2^31 in a type without a fault, unless a foreign type has the alignment 0, behind which a structure begins anew.
+//! They fit below 2^31 in a type without a fault, unless a foreign type has the alignment 0, behind which a structure
+//! begins anew.
 
 ghost use Rattle.std.specs.Prelude.{◌≡◌, List, IfOk, IfSome};
 ghost use Rattle.sgx_base.specs.Bytes.{round_up};
@@ -52,7 +53,8 @@ fn structure_offsets(
     types: &Types,
     members: &[Declared],
 ) -> Result<Items<u32>, AllocError>
-    ensures { IfOk result (λ o. (ss : List Shape) × HasShapes types.now.gathered types.now.foreign members.now ss × (o ≡ offsets ss)) }
+    ensures { IfOk result (λ o. (ss : List Shape) × HasShapes types.now.gathered types.now.foreign members.now ss
+        × (o ≡ offsets ss)) }
 {
     let mut offsets = Items::new(alloc);
     let mut ends = FieldEnds::new();

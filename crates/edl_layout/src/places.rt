@@ -10,7 +10,8 @@ use edl_lexer::Token;
 use sgx_base::Fault;
 
 fn token_at(gathered: &Gathered, file: u32, token: u32) -> Option<&Token>
-    ensures { option_copied result ≡ option_and_then (λ f. slice_get f.tokens token) (slice_get gathered.now.files file) }
+    ensures { option_copied result ≡ option_and_then (λ f. slice_get f.tokens token)
+        (slice_get gathered.now.files file) }
 {
     let file = gathered.files.get(file as usize)?;
     file.tokens.get(token as usize)

@@ -1,7 +1,7 @@
 //! The sizes of the declared types.
 //!
-//! A size is exact up to 2^31 - 1, and 2^31 where it is above. That keeps every sum and product small, and a size that is above stays above
-//! in all that holds it.
+//! A size is exact up to 2^31 - 1, and 2^31 where it is above. That keeps every sum and product small, and a size
+//! that is above stays above in all that holds it.
 
 ghost use Rattle.std.specs.Prelude.{◌≡◌, ◌<◌, ℕ, min, length, slice_get, true, false, IfOk, Some};
 ghost use Rattle.edl_layout.specs.Ends.{shape_at};
@@ -205,7 +205,8 @@ fn members_size(tables: &Declarations, sizes: &[TypeSize], members: &[Declared])
 fn decl_size(tables: &Declarations, sizes: &[TypeSize], decl: &TypeDecl) -> TypeSize
     requires tables { IsDeclarations tables.now }
     requires sizes { spec.AreSizes tables.now.gathered.now tables.now.foreign.now sizes.now }
-    ensures { (file : ℕ) → spec.IsNextSize tables.now.gathered.now tables.now.foreign.now sizes.now (record { file = file; decl = decl.now }) result }
+    ensures { (file : ℕ) → spec.IsNextSize tables.now.gathered.now tables.now.foreign.now sizes.now
+        (record { file = file; decl = decl.now }) result }
 {
     match decl {
         TypeDecl::Enumeration { .. } => TypeSize::Known(Extent::square(4)),

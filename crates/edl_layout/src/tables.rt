@@ -62,7 +62,8 @@ fn push_types<'a>(
     file: u32,
     decls: &'a [TypeDecl],
 ) -> Result<(), AllocError>
-    ensures { IfOk result (λ _. map seen types.new.items ≡ map seen types.old.items ++ map (λ d. record { file = file; decl = d }) decls.now) }
+    ensures { IfOk result (λ _. map seen types.new.items
+        ≡ map seen types.old.items ++ map (λ d. record { file = file; decl = d }) decls.now) }
 {
     for decl in decls {
         types.push(TypeAt { file, decl })?;
@@ -86,7 +87,8 @@ fn push_all<'a>(types: &mut Vec<TypeAt<'a>>, gathered: &'a Gathered) -> Result<(
 
 /// The name of a declared type where it has this tag, or with any tag.
 fn name_under<'a>(decl: &'a TypeDecl, tag: Option<Tag>) -> Option<&'a [u8]>
-    ensures { (file : ℕ) (name : List ℕ) → is_under tag name (record { file = file; decl = decl.now }) ≡ is_name result name }
+    ensures { (file : ℕ) (name : List ℕ) → is_under tag name (record { file = file; decl = decl.now })
+        ≡ is_name result name }
 {
     match decl {
         TypeDecl::Enumeration { name, .. } => match tag {
@@ -259,7 +261,8 @@ impl<'a> Declarations<'a> {
     /// The declaration of the first type of this name.
     pub(crate) fn declared(&self, name: &[u8]) -> Option<&TypeDecl>
         requires { IsDeclarations self.now }
-        ensures { option_copied result ≡ option_map (λ t. t.decl) (find (spec.is_named name.now) (types_of self.now.gathered.now)) }
+        ensures { option_copied result
+            ≡ option_map (λ t. t.decl) (find (spec.is_named name.now) (types_of self.now.gathered.now)) }
     {
         match self.first_under(None, name) {
             Some(number) => Some(self.decl_at(number)),
@@ -271,7 +274,8 @@ impl<'a> Declarations<'a> {
     pub(crate) fn name_at(&self, number: usize) -> Option<&[u8]>
         requires tables { IsDeclarations self.now }
         requires within { number < length (types_of self.now.gathered.now) }
-        ensures { (t : TypeIn) (name : List ℕ) → slice_get (types_of self.now.gathered.now) number ≡ Some t → spec.is_named name t ≡ is_name result name }
+        ensures { (t : TypeIn) (name : List ℕ) → slice_get (types_of self.now.gathered.now) number ≡ Some t
+            → spec.is_named name t ≡ is_name result name }
     {
         name_under(self.decl_at(number), None)
     }
@@ -287,7 +291,8 @@ impl<'a> Declarations<'a> {
     /// What a name is that is neither declared nor standard.
     fn foreign_target(&self, name: &[u8]) -> Target
         requires { IsDeclarations self.now }
-        ensures { IsTarget (types_of self.now.gathered.now) (spec.foreign_meaning self.now.gathered.now self.now.foreign.now name.now) result }
+        ensures { IsTarget (types_of self.now.gathered.now)
+            (spec.foreign_meaning self.now.gathered.now self.now.foreign.now name.now) result }
     {
         match self.foreign_number(name) {
             Some(number) => match self.foreign.types.get(number) {
@@ -305,7 +310,8 @@ impl<'a> Declarations<'a> {
     /// What a bare name is: the declared type of that name, else the standard one, else the foreign one.
     pub(crate) fn bare_target(&self, name: &[u8]) -> Target
         requires { IsDeclarations self.now }
-        ensures { IsTarget (types_of self.now.gathered.now) (spec.bare_meaning self.now.gathered.now self.now.foreign.now name.now) result }
+        ensures { IsTarget (types_of self.now.gathered.now)
+            (spec.bare_meaning self.now.gathered.now self.now.foreign.now name.now) result }
     {
         if let Some(number) = self.first_under(None, name) {
             return Target::Declared(number);
@@ -319,7 +325,8 @@ impl<'a> Declarations<'a> {
     /// What a type is without its stars.
     pub(crate) fn target(&self, base: &Base) -> Target
         requires { IsDeclarations self.now }
-        ensures { IsTarget (types_of self.now.gathered.now) (spec.meaning self.now.gathered.now self.now.foreign.now base.now) result }
+        ensures { IsTarget (types_of self.now.gathered.now) (spec.meaning self.now.gathered.now self.now.foreign.now
+            base.now) result }
     {
         match base {
             Base::Void => Target::Void,
@@ -337,7 +344,9 @@ impl<'a> Declarations<'a> {
     /// The number of the type that something of this type holds by value.
     pub(crate) fn held(&self, written: &Written) -> Option<usize>
         requires { IsDeclarations self.now }
-        ensures { IsHeld (types_of self.now.gathered.now) (spec.held_by (spec.meaning self.now.gathered.now self.now.foreign.now written.now.base) written.now.stars) result }
+        ensures { IsHeld (types_of self.now.gathered.now)
+            (spec.held_by (spec.meaning self.now.gathered.now self.now.foreign.now written.now.base)
+            written.now.stars) result }
     {
         if written.stars > 0 {
             return None;

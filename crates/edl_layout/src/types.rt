@@ -55,7 +55,9 @@ pub(crate) fn clean_sizes(
 ) -> Result<Items<TypeSize>, LayoutFault>
     requires { IsDeclarations tables.now }
     ensures types { IfOk result (AreTypes tables.now) }
-    ensures fault { IfErr result (λ e. (e ≡ LayoutFault.Memory → ⊥) → FaultAmong (IsCleanType tables.now.gathered.now tables.now.foreign.now) (TypeFault tables.now.gathered.now tables.now.foreign.now) (types_of tables.now.gathered.now) e) }
+    ensures fault { IfErr result (λ e. (e ≡ LayoutFault.Memory → ⊥)
+        → FaultAmong (IsCleanType tables.now.gathered.now tables.now.foreign.now)
+        (TypeFault tables.now.gathered.now tables.now.foreign.now) (types_of tables.now.gathered.now) e) }
 {
     let sizes = sizes_of(alloc, tables)?;
     check_types(alloc, tables, sizes.as_slice())?;
@@ -87,14 +89,16 @@ impl<'a> Types<'a> {
 
     /// The size and the alignment of the type of this bare name, where they are known.
     pub(crate) fn extent_named(&self, name: &[u8]) -> Option<Extent>
-        ensures { IsExtent self.now.gathered self.now.foreign (bare_meaning self.now.gathered self.now.foreign name.now) result }
+        ensures { IsExtent self.now.gathered self.now.foreign
+            (bare_meaning self.now.gathered self.now.foreign name.now) result }
     {
         extent_in(self.tables, self.sizes, name)
     }
 
     /// The declaration of the first type of this name.
     pub(crate) fn declared(&self, name: &[u8]) -> Option<&TypeDecl>
-        ensures { option_copied result ≡ option_map (λ t. t.decl) (find (is_named name.now) (types_of self.now.gathered)) }
+        ensures { option_copied result
+            ≡ option_map (λ t. t.decl) (find (is_named name.now) (types_of self.now.gathered)) }
     {
         self.tables.declared(name)
     }
@@ -109,7 +113,8 @@ impl<'a> Types<'a> {
     /// The name of the declared type of this number, where it has one.
     pub(crate) fn name_at(&self, number: usize) -> Option<&[u8]>
         requires { number < length (types_of self.now.gathered) }
-        ensures { (t : TypeIn) (name : List ℕ) → slice_get (types_of self.now.gathered) number ≡ Some t → is_named name t ≡ is_name result name }
+        ensures { (t : TypeIn) (name : List ℕ) → slice_get (types_of self.now.gathered) number ≡ Some t
+            → is_named name t ≡ is_name result name }
     {
         self.tables.name_at(number)
     }
@@ -135,7 +140,8 @@ fn known(size: TypeSize) -> Option<Extent>
 /// The size and the alignment of the type of a bare name, by the tables and the sizes of clean types.
 fn extent_in(tables: &Declarations, sizes: &[TypeSize], name: &[u8]) -> Option<Extent>
     requires { AreTypes tables.now sizes.now }
-    ensures { IsExtent tables.now.gathered.now tables.now.foreign.now (bare_meaning tables.now.gathered.now tables.now.foreign.now name.now) result }
+    ensures { IsExtent tables.now.gathered.now tables.now.foreign.now
+        (bare_meaning tables.now.gathered.now tables.now.foreign.now name.now) result }
 {
     match tables.bare_target(name) {
         Target::Fixed(extent) => Some(extent),
