@@ -1,14 +1,15 @@
 -- The first that is found in a list, and what a loop that looks for it knows.
-use Rattle.std.proofs.Common.{arith, ◌≤◌, is_some, ℕ, zero, suc, ◌≡◌, ◌+◌, ◌<◌, Bool, true, false, cond, ◌||◌, ◌&&◌, nat_lt, List, [], ◌∷◌, ◌++◌, map, length, take, get_or, Option, Some, None, refl, sym, ◌∙◌, ap, add-one, filter}
-use Rattle.std.specs.Prelude.{slice_get, option_map, option_and_then, filter_map, if◌then◌else◌, fold}
+use Rattle.std.proofs.Common.{arith, not, ◌≤◌, is_some, ℕ, zero, suc, ◌≡◌, ◌+◌, ◌<◌, Bool, true, false, cond, ◌||◌, ◌&&◌, nat_lt, List, [], ◌∷◌, ◌++◌, map, length, take, get_or, Option, Some, None, refl, sym, ◌∙◌, ap, add-one, filter}
+use Rattle.std.specs.Prelude.{slice_get, find, unwrap_or, option_map, option_and_then, filter_map, if◌then◌else◌, fold}
 use Rattle.std.specs.List.{flat_map, cons_option, list_any}
 use Rattle.std.specs.Option.{option_or}
 use Rattle.broken_rules.specs.declared.rows.Breach.{Breach}
 use Rattle.edl_grammar.specs.declared.Attribute.{Attribute}
 use Rattle.edl_grammar.specs.declared.NameAt.{NameAt}
 use Rattle.std.specs.Str.{bytes_eq}
+use Rattle.attr_terms.specs.Attributes.{amount_name}
 use Rattle.attr_terms.specs.Rules.{RuleRow, broken_in, repeated, is_second, at}
-use Rattle.broken_rules.specs.Breaches.{breach_of, or_breach, first_breach, in_file}
+use Rattle.broken_rules.specs.Breaches.{breach_of, or_breach, first_breach, in_file, is_repeated, amount_token, holds_of}
 use Rattle.attr_terms.proofs.Lists.{take_whole}
 
 -- ---- the first answer of a function over a list
@@ -158,9 +159,6 @@ first_in-filter_map {Y = Y} {Z = Z} f h (x ∷ xs) = by (h x) (first_in-filter_m
     by None rest = rest
     by (Some y) rest = ap (option_or (f y)) rest
 
-abbrev is_repeated : List Attribute → Attribute → Bool
-is_repeated attrs a = list_any (λ b. bytes_eq b.name a.name && nat_lt b.token a.token) attrs
-
 -- the first attribute whose name stands before it
 pub repeated_law : (attrs : List Attribute) → first_in (λ a. if is_repeated attrs a then Some a.token else None) attrs ≡ head (repeated attrs)
 repeated_law attrs =
@@ -170,6 +168,39 @@ repeated_law attrs =
   where
     named : Attribute → NameAt
     named a = at a.token a.name
+
+pub not_swap : (r s : Bool) → s ≡ not r → r ≡ not s
+not_swap true s e = sym (ap not e)
+not_swap false s e = sym (ap not e)
+
+-- the first item that passes, and the head of all that do
+pub head_find : {X Y : Type 0} (test : X → Bool) (t : X → Y) (xs : List X) → option_map t (find test xs) ≡ head (map t (filter test xs))
+head_find test t [] = refl
+head_find {X} {Y} test t (x ∷ xs) = by (test x) (head_find test t xs)
+  where
+    by : (b : Bool) → option_map t (find test xs) ≡ head (map t (filter test xs)) → option_map t (cond b (Some x) (find test xs)) ≡ head (map t (cond b (x ∷ filter test xs) (filter test xs)))
+    by true rest = refl
+    by false rest = rest
+
+first_in-find : {X Y : Type 0} (test : X → Bool) (t : X → Y) (xs : List X) → option_map t (find test xs) ≡ first_in (λ x. if test x then Some (t x) else None) xs
+first_in-find test t xs = head_find test t xs ∙ head-filter test t xs
+
+pub repeated_find : (attrs : List Attribute) → option_map (λ (a : Attribute). a.token) (find (is_repeated attrs) attrs) ≡ head (repeated attrs)
+repeated_find attrs = first_in-find (is_repeated attrs) (λ (a : Attribute). a.token) attrs ∙ repeated_law attrs
+
+-- the first attribute whose name passes, and the head of all names that do
+pub named_find : (test : NameAt → Bool) (attrs : List Attribute) → option_map amount_token (find (λ a. holds_of test (amount_name a)) attrs) ≡ head (map (λ x. x.token) (filter test (filter_map amount_name attrs)))
+named_find test [] = refl
+named_find test (a ∷ attrs) = by (amount_name a) refl (named_find test attrs)
+  where
+    by : (o : Option NameAt) → amount_name a ≡ o → option_map amount_token (find (λ a. holds_of test (amount_name a)) attrs) ≡ head (map (λ x. x.token) (filter test (filter_map amount_name attrs)))
+        → option_map amount_token (cond (holds_of test o) (Some a) (find (λ a. holds_of test (amount_name a)) attrs)) ≡ head (map (λ x. x.token) (filter test (cons_option o (filter_map amount_name attrs))))
+    by None e rest = rest
+    by (Some x) e rest = pick (test x)
+      where
+        pick : (b : Bool) → option_map amount_token (cond b (Some a) (find (λ a. holds_of test (amount_name a)) attrs)) ≡ head (map (λ x. x.token) (cond b (x ∷ filter test (filter_map amount_name attrs)) (filter test (filter_map amount_name attrs))))
+        pick true = ap (λ (o : Option NameAt). Some (unwrap_or (option_map (λ y. y.token) o) 0)) e
+        pick false = rest
 
 -- where the first part has a head, it is that of the whole
 pub head-front : {X : Type 0} (xs ys : List X) (r : Option X) → r ≡ head xs → is_some r ≡ true → r ≡ head (xs ++ ys)

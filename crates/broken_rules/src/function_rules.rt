@@ -1,6 +1,6 @@
 //! The rules of functions.
 
-ghost use Rattle.std.specs.Prelude.{◌≡◌, ℕ, List, ◌++◌, IfOk, not, ◌&&◌, is_some, map, filter, slice_get, nat_lt, length, Some, None, if◌then◌else◌};
+ghost use Rattle.std.specs.Prelude.{◌≡◌, ℕ, List, ◌++◌, IfOk, not, ◌&&◌, is_some, map, find, option_map, slice_get, nat_lt, length};
 ghost use Rattle.std.specs.List.{flat_map, list_any};
 ghost use Rattle.std.specs.Str.{bytes_eq};
 ghost use Rattle.edl_grammar.specs.declared.Gathered.{Gathered};
@@ -12,7 +12,7 @@ ghost use Rattle.attr_terms.specs.Taken.{function_in};
 ghost use Rattle.broken_rules.specs.Names.{TellEach};
 
 use crate::names::{Names, function_names};
-use crate::param_rules::{params_breach, unless_placed};
+use crate::param_rules::params_breach;
 use crate::rows::{Breach, broken_at, row, row_at};
 use attr_terms::Broken;
 use attr_terms::functions::{Functions, Taken};
@@ -40,7 +40,9 @@ fn names_by_file<'a>(alloc: Global, files: &'a [SourceFile]) -> Result<Vec<Names
 
 /// Whether the function's name stands at an earlier token of its file too.
 fn is_second_function(names: &[Names<'_>], f: &Taken<'_>) -> bool
-    ensures { (g : Gathered) → TellEach names.now g.files → result ≡ rules.is_second (rules.tree_names rules.function_names g f.now.file) (rules.function_name f.now.decl.now) }
+    ensures { (g : Gathered) → TellEach names.now g.files
+        → result ≡ rules.is_second (rules.tree_names rules.function_names g f.now.file)
+        (rules.function_name f.now.decl.now) }
 {
     match at(names, f.file as usize) {
         Some(names) => names.is_second(f.decl.token, f.decl.name.bytes()),
@@ -48,24 +50,25 @@ fn is_second_function(names: &[Names<'_>], f: &Taken<'_>) -> bool
     }
 }
 
-/// The name's token, where no trusted function has the name.
-fn unless_trusted(functions: &Functions<'_>, name: &NameAt) -> Option<u32>
-    ensures { result ≡ (if not (list_any (λ h. bytes_eq h.decl.name name.now.name) (trusted_of functions.now.meanings.gathered.now)) then Some name.now.token else None) }
+/// Whether no trusted function has the name.
+fn is_untrusted(functions: &Functions<'_>, name: &NameAt) -> bool
+    ensures { result
+        ≡ not (list_any (λ h. bytes_eq h.decl.name name.now.name) (trusted_of functions.now.meanings.gathered.now)) }
 {
-    unless_placed(name, functions.ordinal(name.name.bytes()))
+    functions.ordinal(name.name.bytes()).is_none()
 }
 
 /// The first name among these that no trusted function has.
 fn unknown_among(functions: &Functions<'_>, names: &[NameAt]) -> Option<u32>
-    ensures { result ≡ slice_get (map (λ x. x.token) (filter (λ x. not (list_any (λ h. bytes_eq h.decl.name x.name) (trusted_of functions.now.meanings.gathered.now))) names.now)) 0 }
+    ensures { result
+        ≡ option_map (λ x. x.token)
+        (find (λ x. not (list_any (λ h. bytes_eq h.decl.name x.name)
+        (trusted_of functions.now.meanings.gathered.now))) names.now) }
 {
-    for name in names {
-        let token = unless_trusted(functions, name);
-        if token.is_some() {
-            return token;
-        }
-    }
-    None
+    names
+        .iter()
+        .find(|x| is_untrusted(functions, x))
+        .map(|x| x.token)
 }
 
 fn unknown_allowed(functions: &Functions<'_>, f: &FuncDecl) -> Option<u32>
@@ -91,7 +94,8 @@ fn is_allowing_switchless(f: &Taken<'_>) -> bool
 
 /// Whether it is a structure, a union or above 8 bytes.
 fn is_large_result(meanings: &Meanings<'_>, layouts: &Layouts, w: &Written) -> bool
-    ensures { result ≡ rules.is_large_result meanings.now.gathered.now (size_in meanings.now.gathered.now layouts.now) w.now }
+    ensures { result ≡ rules.is_large_result meanings.now.gathered.now (size_in meanings.now.gathered.now layouts.now)
+        w.now }
 {
     w.stars == 0 && (meanings.is_aggregate(&w.base) || size_of(meanings, layouts, w) > 8)
 }
@@ -103,7 +107,9 @@ fn is_refused_result(
     runner: bool,
     f: &FuncDecl,
 ) -> bool
-    ensures { result ≡ (runner && rules.is_large_result functions.now.meanings.gathered.now (size_in functions.now.meanings.gathered.now layouts.now) f.now.result) }
+    ensures { result
+        ≡ (runner && rules.is_large_result functions.now.meanings.gathered.now
+        (size_in functions.now.meanings.gathered.now layouts.now) f.now.result) }
 {
     runner && is_large_result(&functions.meanings, layouts, &f.result)
 }
@@ -123,8 +129,11 @@ fn own_breach(
     is_second: bool,
     f: &Taken<'_>,
 ) -> Option<Breach>
-    ensures { is_second ≡ rules.is_second (rules.tree_names rules.function_names functions.now.meanings.gathered.now f.now.file) (rules.function_name f.now.decl.now)
-        → result ≡ first_breach (rules.own_rows functions.now.meanings.gathered.now runner (size_in functions.now.meanings.gathered.now layouts.now) (function_in f.now)) }
+    ensures { is_second
+        ≡ rules.is_second (rules.tree_names rules.function_names functions.now.meanings.gathered.now f.now.file)
+        (rules.function_name f.now.decl.now)
+        → result ≡ first_breach (rules.own_rows functions.now.meanings.gathered.now runner
+        (size_in functions.now.meanings.gathered.now layouts.now) (function_in f.now)) }
 {
     let token = f.decl.token;
     row(31, is_second, token)
@@ -149,7 +158,8 @@ fn function_breach(
     f: &Taken<'_>,
 ) -> Result<Option<Breach>, AllocError>
     ensures { IfOk result (λ b. TellEach names.now functions.now.meanings.gathered.now.files
-        → b ≡ first_breach (rules.function_rows functions.now.meanings.gathered.now runner (size_in functions.now.meanings.gathered.now layouts.now) (function_in f.now))) }
+        → b ≡ first_breach (rules.function_rows functions.now.meanings.gathered.now runner
+        (size_in functions.now.meanings.gathered.now layouts.now) (function_in f.now))) }
 {
     let own = own_breach(functions, layouts, runner, is_second_function(names, f), f);
     if own.is_some() {
@@ -168,7 +178,8 @@ fn broken_function(
     f: &Taken<'_>,
 ) -> Result<Option<Broken>, AllocError>
     ensures { IfOk result (λ b. TellEach names.now functions.now.meanings.gathered.now.files
-        → b ≡ slice_get (rules.broken_in f.now.file (rules.function_rows functions.now.meanings.gathered.now runner (size_in functions.now.meanings.gathered.now layouts.now) (function_in f.now))) 0) }
+        → b ≡ slice_get (rules.broken_in f.now.file (rules.function_rows functions.now.meanings.gathered.now runner
+        (size_in functions.now.meanings.gathered.now layouts.now) (function_in f.now))) 0) }
 {
     let breach = function_breach(alloc, functions, layouts, runner, names, f)?;
     Ok(broken_at(f.file, breach))
@@ -184,7 +195,9 @@ fn broken_among(
     list: &[Taken<'_>],
 ) -> Result<Option<Broken>, AllocError>
     ensures { IfOk result (λ b. TellEach names.now functions.now.meanings.gathered.now.files
-        → b ≡ slice_get (flat_map (λ f. rules.broken_in f.file (rules.function_rows functions.now.meanings.gathered.now runner (size_in functions.now.meanings.gathered.now layouts.now) f)) (map function_in list.now)) 0) }
+        → b ≡ slice_get (flat_map (λ f. rules.broken_in f.file
+        (rules.function_rows functions.now.meanings.gathered.now runner
+        (size_in functions.now.meanings.gathered.now layouts.now) f)) (map function_in list.now)) 0) }
 {
     for f in list {
         let broken = broken_function(alloc, functions, layouts, runner, names, f)?;
@@ -202,7 +215,9 @@ pub fn broken_functions(
     layouts: &Layouts,
     runner: bool,
 ) -> Result<Option<Broken>, AllocError>
-    ensures { IfOk result (λ b. b ≡ slice_get (flat_map (λ f. rules.broken_in f.file (rules.function_rows functions.now.meanings.gathered.now runner (size_in functions.now.meanings.gathered.now layouts.now) f))
+    ensures { IfOk result (λ b. b
+        ≡ slice_get (flat_map (λ f. rules.broken_in f.file (rules.function_rows functions.now.meanings.gathered.now
+        runner (size_in functions.now.meanings.gathered.now layouts.now) f))
         (trusted_of functions.now.meanings.gathered.now ++ untrusted_of functions.now.meanings.gathered.now)) 0) }
 {
     let names = names_by_file(alloc, functions.meanings.gathered.files.as_slice())?;

@@ -60,7 +60,8 @@ impl<'a> Names<'a> {
     }
 
     fn add(&mut self, token: u32, name: &'a [u8]) -> Result<(), AllocError>
-        ensures { OnOk result ((list : List NameAt) → TellsNames self.old list → TellsNames self.new (list ++ rules.at token name.now ∷ [])) }
+        ensures { OnOk result ((list : List NameAt) → TellsNames self.old list
+            → TellsNames self.new (list ++ rules.at token name.now ∷ [])) }
     {
         let known = self.earliest.get(name).copied();
         self.earliest.insert(name, earlier_of(known, token))?;
@@ -68,7 +69,8 @@ impl<'a> Names<'a> {
     }
 
     fn add_declared(&mut self, declared: &'a [Declared]) -> Result<(), AllocError>
-        ensures { OnOk result ((list : List NameAt) → TellsNames self.old list → TellsNames self.new (list ++ map rules.declared_name declared.now)) }
+        ensures { OnOk result ((list : List NameAt) → TellsNames self.old list
+            → TellsNames self.new (list ++ map rules.declared_name declared.now)) }
     {
         for d in declared {
             self.add(d.token, d.name.bytes())?;
@@ -77,7 +79,8 @@ impl<'a> Names<'a> {
     }
 
     fn add_functions(&mut self, functions: &'a [FuncDecl]) -> Result<(), AllocError>
-        ensures { OnOk result ((list : List NameAt) → TellsNames self.old list → TellsNames self.new (list ++ map rules.function_name functions.now)) }
+        ensures { OnOk result ((list : List NameAt) → TellsNames self.old list
+            → TellsNames self.new (list ++ map rules.function_name functions.now)) }
     {
         for f in functions {
             self.add(f.token, f.name.bytes())?;
@@ -86,7 +89,8 @@ impl<'a> Names<'a> {
     }
 
     fn add_values(&mut self, values: &'a [EnumValue]) -> Result<(), AllocError>
-        ensures { OnOk result ((list : List NameAt) → TellsNames self.old list → TellsNames self.new (list ++ map rules.value_name values.now)) }
+        ensures { OnOk result ((list : List NameAt) → TellsNames self.old list
+            → TellsNames self.new (list ++ map rules.value_name values.now)) }
     {
         for v in values {
             self.add(v.token, v.name.bytes())?;
@@ -96,7 +100,8 @@ impl<'a> Names<'a> {
 
     /// The enumerators of a type.
     fn add_enumerators(&mut self, decl: &'a TypeDecl) -> Result<(), AllocError>
-        ensures { OnOk result ((list : List NameAt) → TellsNames self.old list → TellsNames self.new (list ++ map rules.value_name (rules.values_of decl.now))) }
+        ensures { OnOk result ((list : List NameAt) → TellsNames self.old list
+            → TellsNames self.new (list ++ map rules.value_name (rules.values_of decl.now))) }
     {
         match decl {
             TypeDecl::Enumeration { values, .. } => self.add_values(values.as_slice()),
@@ -107,7 +112,8 @@ impl<'a> Names<'a> {
 
     /// The type's own name, where it has one.
     fn add_type(&mut self, decl: &'a TypeDecl) -> Result<(), AllocError>
-        ensures { OnOk result ((list : List NameAt) → TellsNames self.old list → TellsNames self.new (list ++ option_to_list (rules.type_name decl.now))) }
+        ensures { OnOk result ((list : List NameAt) → TellsNames self.old list
+            → TellsNames self.new (list ++ option_to_list (rules.type_name decl.now))) }
     {
         match name_of(decl) {
             Some(name) => self.add(token_of(decl), name.bytes()),
@@ -117,7 +123,8 @@ impl<'a> Names<'a> {
 
     /// Whether the name stands at an earlier token too.
     pub fn is_second(&self, token: u32, name: &[u8]) -> bool
-        ensures { (list : List NameAt) → TellsNames self.now list → result ≡ rules.is_second list (rules.at token name.now) }
+        ensures { (list : List NameAt) → TellsNames self.now list
+            → result ≡ rules.is_second list (rules.at token name.now) }
     {
         is_before(self.earliest.get(name).copied(), token)
     }

@@ -1,8 +1,7 @@
 //! The rules of parameters.
 
-ghost use Rattle.std.specs.Prelude.{◌≡◌, ℕ, List, Bool, not, ◌&&◌, ◌||◌, ◌==◌, map, slice_get, nat_lt, IfOk, is_some, Some, None, if◌then◌else◌, option_copied};
+ghost use Rattle.std.specs.Prelude.{◌≡◌, ℕ, List, Bool, not, ◌&&◌, ◌||◌, ◌==◌, map, find, option_map, IfOk, option_copied};
 ghost use Rattle.std.specs.List.{list_any, flat_map};
-ghost use Rattle.std.specs.Str.{bytes_eq};
 ghost use Rattle.edl_layout.specs.Frame as frame;
 ghost use Rattle.attr_terms.specs.Attributes as attributes;
 ghost use Rattle.broken_rules.specs.Breaches as breaches;
@@ -11,7 +10,7 @@ ghost use Rattle.attr_terms.specs.Rules as rules;
 ghost use Rattle.broken_rules.specs.Names.{TellsNames};
 
 use crate::names::{Names, declared_names};
-use crate::rows::{Breach, row, row_at, token_if};
+use crate::rows::{Breach, row, row_at};
 use crate::type_rules::has_no_length;
 use attr_terms::attributes::{
     amount_name, has, has_amount, has_direction, is, is_array, is_by_address, is_called, is_char,
@@ -19,13 +18,14 @@ use attr_terms::attributes::{
 };
 use attr_terms::meanings::Meanings;
 use attr_terms::places::Params;
-use edl_grammar::{Attribute, Base, Declared, NameAt};
+use edl_grammar::{Attribute, Base, Declared};
 use std::alloc::{AllocError, Global};
 
 // ---- directions
 
 fn lacks_direction(p: &Declared) -> bool
-    ensures { result ≡ (frame.is_by_address p.now && not (attributes.has_direction p.now || frame.has "user_check" p.now)) }
+    ensures { result
+        ≡ (frame.is_by_address p.now && not (attributes.has_direction p.now || frame.has "user_check" p.now)) }
 {
     is_by_address(p) && !has_direction(p) && !has(p, b"user_check")
 }
@@ -69,7 +69,9 @@ fn has_pointer_attribute(p: &Declared) -> bool
 }
 
 fn is_value_with_pointer_attribute(p: &Declared) -> bool
-    ensures { result ≡ (not (frame.is_by_address p.now) && not (attributes.is_foreign_passed p.now) && list_any rules.is_pointer_attribute p.now.attrs) }
+    ensures { result
+        ≡ (not (frame.is_by_address p.now) && not (attributes.is_foreign_passed p.now) && list_any
+        rules.is_pointer_attribute p.now.attrs) }
 {
     !is_by_address(p) && !is_foreign_passed(p) && has_pointer_attribute(p)
 }
@@ -89,48 +91,41 @@ fn direction_breach(p: &Declared) -> Option<Breach>
 
 /// The first attribute that is unknown, or has or lacks a value wrongly.
 fn malformed(p: &Declared) -> Option<u32>
-    ensures { result ≡ slice_get (rules.attributes_where (λ a. not (attributes.is_well_formed a)) p.now) 0 }
+    ensures { result ≡ breaches.first_where (λ a. not (attributes.is_well_formed a)) p.now }
 {
-    for a in p.attrs.as_slice() {
-        let token = token_if(!is_well_formed(a), a.token);
-        if token.is_some() {
-            return token;
-        }
-    }
-    None
+    p.attrs
+        .as_slice()
+        .iter()
+        .find(|a| !is_well_formed(a))
+        .map(|a| a.token)
 }
 
 /// Whether the attribute's name stands at an earlier token too.
 fn is_repeated(attrs: &[Attribute], a: &Attribute) -> bool
-    ensures { result ≡ list_any (λ b. bytes_eq b.name a.now.name && nat_lt b.token a.now.token) attrs.now }
+    ensures { result ≡ breaches.is_repeated attrs.now a.now }
 {
     attrs.iter().any(|b| is(b.name.bytes(), a.name.bytes()) && b.token < a.token)
 }
 
 /// The first attribute whose name stands before it. Where all are known, it is soon found.
 fn repeated(p: &Declared) -> Option<u32>
-    ensures { result ≡ slice_get (rules.repeated p.now.attrs) 0 }
+    ensures { result ≡ breaches.first_where (breaches.is_repeated p.now.attrs) p.now }
 {
     let attrs = p.attrs.as_slice();
-    for a in attrs {
-        let token = token_if(is_repeated(attrs, a), a.token);
-        if token.is_some() {
-            return token;
-        }
-    }
-    None
+    attrs
+        .iter()
+        .find(|a| is_repeated(attrs, a))
+        .map(|a| a.token)
 }
 
 fn size_function(p: &Declared) -> Option<u32>
-    ensures { result ≡ slice_get (rules.attributes_where rules.is_size_function p.now) 0 }
+    ensures { result ≡ breaches.first_where rules.is_size_function p.now }
 {
-    for a in p.attrs.as_slice() {
-        let token = token_if(is_called(a, b"sizefunc"), a.token);
-        if token.is_some() {
-            return token;
-        }
-    }
-    None
+    p.attrs
+        .as_slice()
+        .iter()
+        .find(|a| is_called(a, b"sizefunc"))
+        .map(|a| a.token)
 }
 
 fn attribute_breach(p: &Declared) -> Option<Breach>
@@ -151,36 +146,34 @@ fn is_counted_array(p: &Declared) -> bool
     is_array(p) && has_amount(p)
 }
 
-/// The name's token, where it has no place.
-pub fn unless_placed(name: &NameAt, place: Option<usize>) -> Option<u32>
-    ensures { result ≡ (if not (is_some place) then Some name.now.token else None) }
+/// Whether it names no parameter in `size` or `count`.
+fn names_none(params: &Params<'_>, a: &Attribute) -> bool
+    ensures { result ≡ breaches.names_none params.now.list.now a.now }
 {
-    match place {
-        Some(_) => None,
-        None => Some(name.token),
+    match amount_name(a) {
+        Some(name) => params.place(name.name.bytes()).is_none(),
+        None => false,
     }
 }
 
-/// The name in `size` or `count` that no parameter has.
-fn unknown_in(params: &Params<'_>, a: &Attribute) -> Option<u32>
-    ensures { result ≡ breaches.unknown_amount params.now.list.now a.now }
+/// The token of the name in `size` or `count`.
+fn amount_token(a: &Attribute) -> u32
+    ensures { result ≡ breaches.amount_token a.now }
 {
     match amount_name(a) {
-        Some(name) => unless_placed(name, params.place(name.name.bytes())),
-        None => None,
+        Some(name) => name.token,
+        None => 0,
     }
 }
 
 fn unknown_amount(params: &Params<'_>, p: &Declared) -> Option<u32>
-    ensures { result ≡ slice_get (rules.unknown_amounts params.now.list.now p.now) 0 }
+    ensures { result ≡ option_map breaches.amount_token (find (breaches.names_none params.now.list.now) p.now.attrs) }
 {
-    for a in p.attrs.as_slice() {
-        let token = unknown_in(params, a);
-        if token.is_some() {
-            return token;
-        }
-    }
-    None
+    p.attrs
+        .as_slice()
+        .iter()
+        .find(|a| names_none(params, a))
+        .map(|a| amount_token(a))
 }
 
 /// Whether it is a parameter that is no integer.
@@ -193,29 +186,26 @@ fn is_no_integer(meanings: &Meanings<'_>, named: Option<&Declared>) -> bool
     }
 }
 
-/// The name in `size` or `count` whose first parameter is no integer.
-fn other_in(meanings: &Meanings<'_>, params: &Params<'_>, a: &Attribute) -> Option<u32>
-    ensures { result ≡ breaches.other_amount meanings.now.gathered.now params.now.list.now a.now }
+/// Whether the first parameter that it names in `size` or `count` is no integer.
+fn names_other(meanings: &Meanings<'_>, params: &Params<'_>, a: &Attribute) -> bool
+    ensures { result ≡ breaches.names_other meanings.now.gathered.now params.now.list.now a.now }
 {
     match amount_name(a) {
-        Some(name) => {
-            let is_other = is_no_integer(meanings, params.named(name.name.bytes()));
-            token_if(is_other, name.token)
-        }
-        None => None,
+        Some(name) => is_no_integer(meanings, params.named(name.name.bytes())),
+        None => false,
     }
 }
 
 fn other_amount(meanings: &Meanings<'_>, params: &Params<'_>, p: &Declared) -> Option<u32>
-    ensures { result ≡ slice_get (rules.other_amounts meanings.now.gathered.now params.now.list.now p.now) 0 }
+    ensures { result
+        ≡ option_map breaches.amount_token (find (breaches.names_other meanings.now.gathered.now params.now.list.now)
+        p.now.attrs) }
 {
-    for a in p.attrs.as_slice() {
-        let token = other_in(meanings, params, a);
-        if token.is_some() {
-            return token;
-        }
-    }
-    None
+    p.attrs
+        .as_slice()
+        .iter()
+        .find(|a| names_other(meanings, params, a))
+        .map(|a| amount_token(a))
 }
 
 fn amount_breach(meanings: &Meanings<'_>, params: &Params<'_>, p: &Declared) -> Option<Breach>
@@ -246,7 +236,9 @@ fn is_wide(meanings: &Meanings<'_>, base: &Base) -> bool
 }
 
 fn is_unsized_void(p: &Declared) -> bool
-    ensures { result ≡ (attributes.is_single_pointer p.now && frame.is_void p.now.written.base && (attributes.has_direction p.now && not (frame.has "size" p.now))) }
+    ensures { result
+        ≡ (attributes.is_single_pointer p.now && frame.is_void p.now.written.base &&
+        (attributes.has_direction p.now && not (frame.has "size" p.now))) }
 {
     is_single_pointer(p) && is_void(&p.written.base) && has_direction(p) && !has(p, b"size")
 }
@@ -258,25 +250,34 @@ fn is_char_pointer(p: &Declared) -> bool
 }
 
 fn is_wide_pointer(meanings: &Meanings<'_>, p: &Declared) -> bool
-    ensures { result ≡ (attributes.is_single_pointer p.now && attributes.is_wide meanings.now.gathered.now p.now.written.base) }
+    ensures { result
+        ≡ (attributes.is_single_pointer p.now && attributes.is_wide meanings.now.gathered.now p.now.written.base) }
 {
     is_single_pointer(p) && is_wide(meanings, &p.written.base)
 }
 
 fn is_other_string(p: &Declared) -> bool
-    ensures { result ≡ (frame.has "string" p.now && not (attributes.is_single_pointer p.now && attributes.is_char p.now.written.base)) }
+    ensures { result
+        ≡ (frame.has "string" p.now && not (attributes.is_single_pointer p.now && attributes.is_char
+        p.now.written.base)) }
 {
     has(p, b"string") && !is_char_pointer(p)
 }
 
 fn is_other_wide_string(meanings: &Meanings<'_>, p: &Declared) -> bool
-    ensures { result ≡ (frame.has "wstring" p.now && not (attributes.is_single_pointer p.now && attributes.is_wide meanings.now.gathered.now p.now.written.base)) }
+    ensures { result
+        ≡ (frame.has "wstring" p.now && not (attributes.is_single_pointer p.now && attributes.is_wide
+        meanings.now.gathered.now p.now.written.base)) }
 {
     has(p, b"wstring") && !is_wide_pointer(meanings, p)
 }
 
 fn is_string_on_other(meanings: &Meanings<'_>, p: &Declared) -> bool
-    ensures { result ≡ ((frame.has "string" p.now && not (attributes.is_single_pointer p.now && attributes.is_char p.now.written.base)) || (frame.has "wstring" p.now && not (attributes.is_single_pointer p.now && attributes.is_wide meanings.now.gathered.now p.now.written.base))) }
+    ensures { result
+        ≡ ((frame.has "string" p.now && not (attributes.is_single_pointer p.now && attributes.is_char
+        p.now.written.base)) ||
+        (frame.has "wstring" p.now && not (attributes.is_single_pointer p.now && attributes.is_wide
+        meanings.now.gathered.now p.now.written.base))) }
 {
     is_other_string(p) || is_other_wide_string(meanings, p)
 }
@@ -318,7 +319,9 @@ fn is_both_foreign(p: &Declared) -> bool
 }
 
 fn is_ill_foreign(meanings: &Meanings<'_>, p: &Declared) -> bool
-    ensures { result ≡ (attributes.is_foreign_passed p.now && (not (attributes.is_foreign_type meanings.now.gathered.now p.now) || (frame.has "isptr" p.now && frame.has "isary" p.now))) }
+    ensures { result
+        ≡ (attributes.is_foreign_passed p.now && (not (attributes.is_foreign_type meanings.now.gathered.now p.now) ||
+        (frame.has "isptr" p.now && frame.has "isary" p.now))) }
 {
     is_foreign_passed(p) && (!is_foreign_type(meanings, p) || is_both_foreign(p))
 }
@@ -358,7 +361,9 @@ fn breach_among(
     names: &Names<'_>,
 ) -> Option<Breach>
     requires { TellsNames names.now (map rules.declared_name params.now.list.now) }
-    ensures { result ≡ first_breach (flat_map (rules.param_rows meanings.now.gathered.now runner params.now.list.now) params.now.list.now) }
+    ensures { result
+        ≡ first_breach (flat_map (rules.param_rows meanings.now.gathered.now runner params.now.list.now)
+        params.now.list.now) }
 {
     let list = params.list;
     for p in list {
@@ -378,7 +383,8 @@ pub fn params_breach(
     runner: bool,
     list: &[Declared],
 ) -> Result<Option<Breach>, AllocError>
-    ensures { IfOk result (λ b. b ≡ first_breach (flat_map (rules.param_rows meanings.now.gathered.now runner list.now) list.now)) }
+    ensures { IfOk result (λ b. b
+        ≡ first_breach (flat_map (rules.param_rows meanings.now.gathered.now runner list.now) list.now)) }
 {
     let params = Params::new(alloc, list)?;
     let names = declared_names(alloc, list)?;

@@ -46,13 +46,6 @@ pub fn row_at(code: u8, token: Option<u32>) -> Option<Breach>
     }
 }
 
-/// The token, where this holds.
-pub fn token_if(holds: bool, token: u32) -> Option<u32>
-    ensures { result ≡ (if holds then Some token else None) }
-{
-    if holds { Some(token) } else { None }
-}
-
 /// A broken rule of a declaration of this file.
 pub fn broken_at(file: u32, breach: Option<Breach>) -> Option<Broken>
     ensures { result ≡ option_map (breaches.in_file file) breach }

@@ -23,7 +23,8 @@ const MAX_FUNCTIONS: usize = 1024;
 /// The first broken rule of the types of all files.
 fn broken_types(alloc: Global, files: &[SourceFile]) -> Result<Option<Broken>, AllocError>
     requires few { length files.now < 2 ^ 32 }
-    ensures { IfOk result (λ b. (g : Gathered) → g.files ≡ files.now → b ≡ slice_get (flat_map (λ t. rules.broken_in t.file (rules.type_rows g t)) (types_of g)) 0) }
+    ensures { IfOk result (λ b. (g : Gathered) → g.files ≡ files.now
+        → b ≡ slice_get (flat_map (λ t. rules.broken_in t.file (rules.type_rows g t)) (types_of g)) 0) }
 {
     for (number, file) in files.iter().enumerate() {
         let broken = broken_type(alloc, number as u32, &file.tree)?;
@@ -76,7 +77,10 @@ fn beyond(functions: &[Taken<'_>]) -> Option<Broken>
 
 /// The first broken rule of a whole side.
 fn broken_side(functions: &Functions<'_>) -> Option<Broken>
-    ensures { result ≡ slice_get (rules.without_public (trusted_of functions.now.meanings.gathered.now) ++ rules.beyond (trusted_of functions.now.meanings.gathered.now) ++ rules.beyond (untrusted_of functions.now.meanings.gathered.now)) 0 }
+    ensures { result
+        ≡ slice_get (rules.without_public (trusted_of functions.now.meanings.gathered.now) ++ rules.beyond
+        (trusted_of functions.now.meanings.gathered.now) ++ rules.beyond
+        (untrusted_of functions.now.meanings.gathered.now)) 0 }
 {
     without_public(&functions.trusted)
         .or(beyond(&functions.trusted))

@@ -46,7 +46,9 @@ fn values_of(decl: &TypeDecl) -> &[EnumValue]
 
 /// The first broken rule of a member, whose name stands before or not.
 fn member_breach(m: &Declared, is_second: bool) -> Option<Breach>
-    ensures { (members : List Declared) → is_second ≡ rules.is_second (map rules.declared_name members) (rules.declared_name m.now) → result ≡ first_breach (rules.member_rows members m.now) }
+    ensures { (members : List Declared)
+        → is_second ≡ rules.is_second (map rules.declared_name members) (rules.declared_name m.now)
+        → result ≡ first_breach (rules.member_rows members m.now) }
 {
     row(29, has_no_length(m), m.token).or(row(31, is_second, m.token))
 }
@@ -73,7 +75,8 @@ fn value_breach(v: &EnumValue, names: &Names<'_>) -> Option<Breach>
 
 /// The first broken rule among enumerators, by the names of all of their file.
 fn values_breach(values: &[EnumValue], names: &Names<'_>) -> Option<Breach>
-    ensures { (list : List NameAt) → TellsNames names.now list → result ≡ first_breach (flat_map (rules.value_rows list) values.now) }
+    ensures { (list : List NameAt) → TellsNames names.now list
+        → result ≡ first_breach (flat_map (rules.value_rows list) values.now) }
 {
     for v in values {
         let breach = value_breach(v, names);
@@ -86,7 +89,8 @@ fn values_breach(values: &[EnumValue], names: &Names<'_>) -> Option<Breach>
 
 /// Whether the type's name stands at an earlier token too.
 fn is_second_type(decl: &TypeDecl, names: &Names<'_>) -> bool
-    ensures { (list : List NameAt) → TellsNames names.now list → result ≡ rules.is_second_name list (rules.type_name decl.now) }
+    ensures { (list : List NameAt) → TellsNames names.now list
+        → result ≡ rules.is_second_name list (rules.type_name decl.now) }
 {
     match name_of(decl) {
         Some(name) => names.is_second(token_of(decl), name.bytes()),
@@ -101,7 +105,8 @@ fn type_breach(
     types: &Names<'_>,
     values: &Names<'_>,
 ) -> Result<Option<Breach>, AllocError>
-    ensures { IfOk result (λ b. (ts vs : List NameAt) → TellsNames types.now ts → TellsNames values.now vs → b ≡ first_breach (rules.type_rows_in ts vs decl.now)) }
+    ensures { IfOk result (λ b. (ts vs : List NameAt) → TellsNames types.now ts → TellsNames values.now vs
+        → b ≡ first_breach (rules.type_rows_in ts vs decl.now)) }
 {
     let own = row(31, is_second_type(decl, types), token_of(decl));
     if own.is_some() {
@@ -133,7 +138,9 @@ fn broken_among(
 
 /// The first broken rule of a file's types.
 pub fn broken_type(alloc: Global, file: u32, tree: &EdlFile) -> Result<Option<Broken>, AllocError>
-    ensures { IfOk result (λ b. b ≡ slice_get (flat_map (λ t. rules.broken_in file (rules.type_rows_in (rules.type_names tree.now) (rules.enumerator_names tree.now) t)) tree.now.types) 0) }
+    ensures { IfOk result (λ b. b
+        ≡ slice_get (flat_map (λ t. rules.broken_in file (rules.type_rows_in (rules.type_names tree.now)
+        (rules.enumerator_names tree.now) t)) tree.now.types) 0) }
 {
     let types = type_names(alloc, tree)?;
     let values = enumerator_names(alloc, tree)?;
