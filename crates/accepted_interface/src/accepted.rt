@@ -43,7 +43,8 @@ fn is_measured(is_trusted: bool, p: &Declared) -> bool
 
 /// The size and the alignment of a parameter's field.
 fn field_extent(sizes: &Sizes, p: &Declared) -> Option<Extent>
-    ensures { option_map shape_at result ≡ frame.field_shape (accepted.shape_of (files_of sizes.now) (table_of sizes.now)) p.now }
+    ensures { option_map shape_at result
+        ≡ frame.field_shape (accepted.shape_of (files_of sizes.now) (table_of sizes.now)) p.now }
 {
     if is_by_address(p) || has(p, b"isary") {
         Some(Extent::ADDRESS)
@@ -54,23 +55,28 @@ fn field_extent(sizes: &Sizes, p: &Declared) -> Option<Extent>
 
 /// The fields of what a function returns.
 fn result_fields(sizes: &Sizes, written: &Written) -> Fields
-    ensures { HasFields result (frame.result_fields (accepted.shape_of (files_of sizes.now) (table_of sizes.now)) written.now) }
+    ensures { HasFields result (frame.result_fields (accepted.shape_of (files_of sizes.now) (table_of sizes.now))
+        written.now) }
 {
     let mut fields = Fields::new();
     if is_returning(written) {
-        let _ = fields.push(sizes.extent(written));
+        fields.push(sizes.extent(written));
     }
     fields
 }
 
 /// Puts the fields of a parameter behind the others, and gives the offset of its own in bytes.
 fn put_fields(sizes: &Sizes, is_trusted: bool, fields: &mut Fields, p: &Declared) -> u32
-    ensures offset { (before : List (Option Shape)) → HasFields fields.old before → result ≡ accepted.offset_behind before (frame.field_shape (accepted.shape_of (files_of sizes.now) (table_of sizes.now)) p.now) }
-    ensures fields { (before : List (Option Shape)) → HasFields fields.old before → HasFields fields.new (before ++ frame.param_fields (accepted.shape_of (files_of sizes.now) (table_of sizes.now)) is_trusted p.now) }
+    ensures offset { (before : List (Option Shape)) → HasFields fields.old before
+        → result ≡ accepted.offset_behind before
+        (frame.field_shape (accepted.shape_of (files_of sizes.now) (table_of sizes.now)) p.now) }
+    ensures fields { (before : List (Option Shape)) → HasFields fields.old before
+        → HasFields fields.new (before ++ frame.param_fields (accepted.shape_of (files_of sizes.now)
+        (table_of sizes.now)) is_trusted p.now) }
 {
     let offset = fields.push(field_extent(sizes, p));
     if is_measured(is_trusted, p) {
-        let _ = fields.push(Some(Extent::ADDRESS));
+        fields.push(Some(Extent::ADDRESS));
     }
     offset
 }
@@ -86,8 +92,13 @@ fn param(
 ) -> Result<Param, AllocError>
     requires few { length list.now.list.now ≤ max_params }
     requires fits { LengthFits (files_of sizes.now) (table_of sizes.now) p.now }
-    ensures param { (before : List (Option Shape)) → HasFields fields.old before → IfOk result (λ q. q ≡ accepted.param_behind (files_of sizes.now) (table_of sizes.now) list.now.list.now before p.now) }
-    ensures fields { (before : List (Option Shape)) → HasFields fields.old before → OnOk result (HasFields fields.new (before ++ frame.param_fields (accepted.shape_of (files_of sizes.now) (table_of sizes.now)) is_trusted p.now)) }
+    ensures param { (before : List (Option Shape)) → HasFields fields.old before
+        → IfOk result (λ q. q ≡ accepted.param_behind (files_of sizes.now) (table_of sizes.now) list.now.list.now
+        before p.now) }
+    ensures fields { (before : List (Option Shape)) → HasFields fields.old before
+        → OnOk result
+        (HasFields fields.new (before ++ frame.param_fields (accepted.shape_of (files_of sizes.now)
+        (table_of sizes.now)) is_trusted p.now)) }
 {
     let offset = put_fields(sizes, is_trusted, fields, p);
     let class = class(sizes, list, p);
@@ -109,8 +120,14 @@ fn params(
 ) -> Result<Items<Param>, AllocError>
     requires few { length list.now.list.now ≤ max_params }
     requires fits { All (LengthFits (files_of sizes.now) (table_of sizes.now)) list.now.list.now }
-    ensures params { (before : List (Option Shape)) → HasFields fields.old before → IfOk result (λ ps. ps ≡ accepted.params_from (files_of sizes.now) (table_of sizes.now) is_trusted list.now.list.now before list.now.list.now) }
-    ensures fields { (before : List (Option Shape)) → HasFields fields.old before → OnOk result (HasFields fields.new (before ++ flat_map (frame.param_fields (accepted.shape_of (files_of sizes.now) (table_of sizes.now)) is_trusted) list.now.list.now)) }
+    ensures params { (before : List (Option Shape)) → HasFields fields.old before
+        → IfOk result (λ ps. ps ≡ accepted.params_from (files_of sizes.now) (table_of sizes.now) is_trusted
+        list.now.list.now before list.now.list.now) }
+    ensures fields { (before : List (Option Shape)) → HasFields fields.old before
+        → OnOk result
+        (HasFields fields.new
+        (before ++ flat_map (frame.param_fields (accepted.shape_of (files_of sizes.now) (table_of sizes.now))
+        is_trusted) list.now.list.now)) }
 {
     let mut done = Items::new(alloc);
     let declared = list.list;
@@ -130,8 +147,10 @@ struct Framed {
 
 fn params_in_frame(alloc: Global, sizes: &Sizes, f: Taken) -> Result<Framed, AllocError>
     requires { FunctionFits (files_of sizes.now) (table_of sizes.now) (function_in f) }
-    ensures params { IfOk result (λ r. r.params ≡ params_of (files_of sizes.now) (table_of sizes.now) (function_in f.entry)) }
-    ensures size { IfOk result (λ r. r.size ≡ accepted.frame_size (files_of sizes.now) (table_of sizes.now) (function_in f.entry)) }
+    ensures params { IfOk result (λ r. r.params ≡ params_of (files_of sizes.now) (table_of sizes.now)
+        (function_in f.entry)) }
+    ensures size { IfOk result (λ r. r.size ≡ accepted.frame_size (files_of sizes.now) (table_of sizes.now)
+        (function_in f.entry)) }
 {
     let decl = f.decl;
     let list = Params::new(alloc, decl.params.as_slice())?;
@@ -172,7 +191,8 @@ fn ordinals(
     names: &[NameAt],
 ) -> Result<Items<u32>, AllocError>
     requires { length (trusted_of functions.now.meanings.gathered.now) ≤ max_functions }
-    ensures { IfOk result (λ os. os ≡ map (λ x. accepted.ordinal_of functions.now.meanings.gathered.now x.name) names.now) }
+    ensures { IfOk result (λ os. os ≡ map (λ x. accepted.ordinal_of functions.now.meanings.gathered.now x.name)
+        names.now) }
 {
     let mut done = Items::new(alloc);
     for x in names {
@@ -188,7 +208,8 @@ fn allowed(
     names: Option<&Items<NameAt>>,
 ) -> Result<Items<u32>, AllocError>
     requires { length (trusted_of functions.now.meanings.gathered.now) ≤ max_functions }
-    ensures { IfOk result (λ os. os ≡ map (λ x. accepted.ordinal_of functions.now.meanings.gathered.now x.name) (unwrap_or (option_copied names.entry) [])) }
+    ensures { IfOk result (λ os. os ≡ map (λ x. accepted.ordinal_of functions.now.meanings.gathered.now x.name)
+        (unwrap_or (option_copied names.entry) [])) }
 {
     match names {
         Some(names) => ordinals(alloc, functions, names.as_slice()),
@@ -213,7 +234,8 @@ fn function(
     requires same { files_of sizes.now ≡ functions.now.meanings.gathered.now }
     requires few { length (trusted_of functions.now.meanings.gathered.now) ≤ max_functions }
     requires fits { FunctionFits (files_of sizes.now) (table_of sizes.now) (function_in f) }
-    ensures { IfOk result (λ r. r ≡ accepted.function_of (files_of sizes.now) (table_of sizes.now) (function_in f.entry)) }
+    ensures { IfOk result (λ r. r ≡ accepted.function_of (files_of sizes.now) (table_of sizes.now)
+        (function_in f.entry)) }
 {
     let decl = f.decl;
     let framed = params_in_frame(alloc, sizes, f)?;
@@ -240,7 +262,8 @@ fn side(
     requires same { files_of sizes.now ≡ functions.now.meanings.gathered.now }
     requires few { length (trusted_of functions.now.meanings.gathered.now) ≤ max_functions }
     requires fits { All (FunctionFits (files_of sizes.now) (table_of sizes.now)) (map function_in taken.now) }
-    ensures { IfOk result (λ fs. fs ≡ map (accepted.function_of (files_of sizes.now) (table_of sizes.now)) (map function_in taken.now)) }
+    ensures { IfOk result (λ fs. fs ≡ map (accepted.function_of (files_of sizes.now) (table_of sizes.now))
+        (map function_in taken.now)) }
 {
     let mut done = Items::new(alloc);
     for f in taken {

@@ -52,7 +52,8 @@ fn place(params: &Params, name: &[u8]) -> u32
 /// What `size` or `count` says, or else this number.
 fn amount(params: &Params, default: u32, attribute: Option<&Attribute>) -> Amount
     requires { length params.now.list.now ≤ max_params }
-    ensures { result ≡ accepted.amount_by params.now.list.now default (option_map (λ a. a.value) (option_copied attribute.entry)) }
+    ensures { result ≡ accepted.amount_by params.now.list.now default
+        (option_map (λ a. a.value) (option_copied attribute.entry)) }
 {
     let Some(attribute) = attribute else {
         return Amount::Number(u64::from(default));
@@ -94,7 +95,8 @@ fn pointer(sizes: &Sizes, params: &Params, p: &Declared) -> Class
 
 /// An array, whose length its type tells.
 fn fixed(sizes: &Sizes, p: &Declared) -> Class
-    requires { accepted.size_of (files_of sizes.now) (table_of sizes.now) p.now.written * shape.elements p.now.dims < 2 ^ 32 }
+    requires { accepted.size_of (files_of sizes.now) (table_of sizes.now) p.now.written * shape.elements p.now.dims
+        < 2 ^ 32 }
     ensures { result ≡ accepted.fixed_class (files_of sizes.now) (table_of sizes.now) p.now }
 {
     let unit = sizes.size(&p.written);

@@ -49,8 +49,10 @@ impl Fields {
 
     /// Puts a field behind the others, and gives its offset in bytes, 0 where it is unknown.
     pub fn push(&mut self, field: Option<Extent>) -> u32
-        ensures offset { (fields : List (Option Shape)) → HasFields self.old fields → result ≡ offset_behind fields (option_map shape_at field) }
-        ensures fields { (fields : List (Option Shape)) → HasFields self.old fields → HasFields self.new (fields ++ option_map shape_at field ∷ []) }
+        ensures offset { (fields : List (Option Shape)) → HasFields self.old fields
+            → result ≡ offset_behind fields (option_map shape_at field) }
+        ensures fields { (fields : List (Option Shape)) → HasFields self.old fields
+            → HasFields self.new (fields ++ option_map shape_at field ∷ []) }
     {
         let (ends, place) = put(self.ends, field);
         self.ends = ends;
@@ -59,7 +61,8 @@ impl Fields {
 
     /// The size of the structure in bytes, 0 where it is unknown.
     pub fn size(&self) -> u32
-        ensures { (fields : List (Option Shape)) → HasFields self.now fields → size_of_fields fields < 2 ^ 32 → result ≡ size_of_fields fields }
+        ensures { (fields : List (Option Shape)) → HasFields self.now fields → size_of_fields fields < 2 ^ 32
+            → result ≡ size_of_fields fields }
     {
         match self.ends {
             Some(ends) => narrow(Some(ends.size())),

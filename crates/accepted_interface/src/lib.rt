@@ -23,8 +23,11 @@ use std::alloc::{AllocError, Global};
 
 /// The interface of these functions' files, in which no rule is broken, and that it is sound.
 fn accept(alloc: Global, functions: &Functions, layouts: &Layouts) -> Result<Interface, AllocError>
-    requires clean { (runner : Bool) × (broken_of functions.now.meanings.gathered.now runner (terms.size_of functions.now.meanings.gathered.now layouts.now) ≡ []) }
-    requires made { (foreign : ForeignTypes) × HasLayouts functions.now.meanings.gathered.now foreign × IsTable functions.now.meanings.gathered.now foreign layouts.now }
+    requires clean { (runner : Bool)
+        × (broken_of functions.now.meanings.gathered.now runner
+        (terms.size_of functions.now.meanings.gathered.now layouts.now) ≡ []) }
+    requires made { (foreign : ForeignTypes) × HasLayouts functions.now.meanings.gathered.now foreign
+        × IsTable functions.now.meanings.gathered.now foreign layouts.now }
     ensures interface { IfOk result (λ i. i ≡ terms.interface_of functions.now.meanings.gathered.now layouts.now) }
     ensures sound { IfOk result IsSound }
 {
@@ -42,7 +45,8 @@ pub fn whole_interface(
     layouts: &Layouts,
 ) -> Result<Interface, AllocError>
     requires clean { (runner : Bool) × (broken_of gathered.now runner (terms.size_of gathered.now layouts.now) ≡ []) }
-    requires made { (foreign : ForeignTypes) × HasLayouts gathered.now foreign × IsTable gathered.now foreign layouts.now }
+    requires made { (foreign : ForeignTypes) × HasLayouts gathered.now foreign
+        × IsTable gathered.now foreign layouts.now }
     ensures interface { IfOk result (λ i. i ≡ terms.interface_of gathered.now layouts.now) }
     ensures sound { IfOk result IsSound }
 {

@@ -46,7 +46,8 @@ fn function_of<'a>(gathered: &'a Gathered, pick: Pick, is_trusted: bool) -> Opti
 
 /// Puts the function, where there is one, to the end.
 fn put<'a>(functions: &mut Vec<Taken<'a>>, function: Option<Taken<'a>>) -> Result<(), AllocError>
-    ensures { OnOk result (map function_in functions.new.items ≡ map function_in functions.old.items ++ option_to_list (option_map function_in function.entry)) }
+    ensures { OnOk result (map function_in functions.new.items ≡ map function_in functions.old.items ++ option_to_list
+        (option_map function_in function.entry)) }
 {
     if let Some(function) = function {
         functions.push(function)?;

@@ -102,7 +102,9 @@ fn mark<'a>(
     name: &'a [u8],
     tag: Tag,
 ) -> Result<(), AllocError>
-    ensures { OnOk result ((q : List ℕ) → kinds.told table.new q ≡ (if bytes_eq name.now q then Some (kinds.with_tag (kinds.told table.old q) tag) else kinds.told table.old q)) }
+    ensures { OnOk result ((q : List ℕ) → kinds.told table.new q
+        ≡ (if bytes_eq name.now q then Some (kinds.with_tag (kinds.told table.old q) tag) else kinds.told table.old
+        q)) }
 {
     let known = table.get(name).copied();
     table.insert(name, with_tag(known, tag))?;
@@ -114,7 +116,8 @@ fn mark_type<'a>(
     table: &mut IndexMap<&'a [u8], Kinds>,
     decl: &'a TypeDecl,
 ) -> Result<(), AllocError>
-    ensures { OnOk result ((q : List ℕ) → kinds.told table.new q ≡ kinds.with_decl q (kinds.told table.old q) decl.now) }
+    ensures { OnOk result ((q : List ℕ) → kinds.told table.new q
+        ≡ kinds.with_decl q (kinds.told table.old q) decl.now) }
 {
     match name_of(decl) {
         Some(name) => mark(table, name.bytes(), tag_of(decl)),
@@ -127,7 +130,8 @@ fn mark_types<'a>(
     table: &mut IndexMap<&'a [u8], Kinds>,
     decls: &'a [TypeDecl],
 ) -> Result<(), AllocError>
-    ensures { OnOk result ((q : List ℕ) → kinds.told table.new q ≡ fold (kinds.with_decl q) (kinds.told table.old q) decls.now) }
+    ensures { OnOk result ((q : List ℕ) → kinds.told table.new q
+        ≡ fold (kinds.with_decl q) (kinds.told table.old q) decls.now) }
 {
     for decl in decls {
         mark_type(table, decl)?;

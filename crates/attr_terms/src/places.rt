@@ -28,7 +28,8 @@ impl<'a> Places<'a> {
 
     /// The name at this place, which is the next.
     pub fn add(&mut self, place: usize, name: &'a [u8]) -> Result<(), AllocError>
-        ensures { OnOk result ((names : List (List ℕ)) → place ≡ length names → TellsPlaces self.old names → TellsPlaces self.new (names ++ name.now ∷ [])) }
+        ensures { OnOk result ((names : List (List ℕ)) → place ≡ length names → TellsPlaces self.old names
+            → TellsPlaces self.new (names ++ name.now ∷ [])) }
     {
         let known = self.first.get(name).copied();
         self.first.insert(name, known.unwrap_or(place))?;
