@@ -8,7 +8,8 @@ use Rattle.enclave_memory.specs.declared.Block.{Block}
 use Rattle.enclave_memory.specs.Memory.{Memory, taken_by, room_of, IsPush}
 use Rattle.enclave_memory.proofs.Blocks.{taken_by-cons, taken_by-append, pushed_block}
 use Rattle.body_vm.specs.State.{State, with_new_block}
-use Rattle.body_vm.specs.Places.{bytes_at, blocks_in, IsNumbered, AreNumbered, IsAbsent, AreApart, IsHeld, IsPast, AreBehind, AreAsLong, IsKept}
+use Rattle.body_vm.specs.Places.{bytes_at, blocks_in, IsNumbered, AreNumbered, IsAbsent, AreApart, IsHeld, IsPast, AreBehind, AreAsLong}
+use Rattle.body_vm.specs.Moments.{IsBegun}
 use Rattle.body_vm.proofs.PlaceLaws.{still_numbered, behind_same}
 
 get_more : (xs ys : List (List ℕ)) (n : ℕ) (b : List ℕ) → slice_get xs n ≡ Some b → slice_get (xs ++ ys) n ≡ Some b
@@ -87,14 +88,7 @@ blocks_more before after (Some b ∷ blocks) (Some n ∷ numbers) f h =
     let (bytes, is) = h.0 in
     ap (λ x. x ∷ blocks_in after numbers) (f n bytes is.bytes_are ∙ sym is.bytes_are) ∙ ap (λ bs. slice_get before.blocks n ∷ bs) (blocks_more before after blocks numbers f h.1)
 
--- a place that has a block of zeros behind all others, or null
-pub record IsBegun (before after : Memory) (blocks : List (Option Block)) (numbers : List (Option ℕ)) (place n : ℕ) : Type 0 where
-  pub later : List (Option ℕ)
-  pub held : IsHeld after blocks later
-  pub kept : IsKept before after numbers later
-  pub state : (registers values : List ℕ) → record { registers = registers; values = values; blocks = blocks_in after later; room = room_of after }
-      ≡ with_new_block (record { registers = registers; values = values; blocks = blocks_in before numbers; room = room_of before }) place n
-
+-- a place with a new block, where it fits or does not
 new_state : (s : State) (place n : ℕ) (fits : Bool) → nat_le (rounded_size n) s.room ≡ fits
     → with_new_block s place n ≡ (if fits then record s { blocks = slice_set s.blocks place (Some (replicate n 0)); room = s.room - rounded_size n } else record s { blocks = slice_set s.blocks place None })
 new_state s place n fits e = ap (λ (b : Bool). if b then record s { blocks = slice_set s.blocks place (Some (replicate n 0)); room = s.room - rounded_size n } else record s { blocks = slice_set s.blocks place None }) e

@@ -1,7 +1,12 @@
 -- The blocks of a body as blocks of an arena.
-use Rattle.std.specs.Prelude.{ℕ, ◌≡◌, ◌≢◌, ◌≤◌, ◌⊎◌, List, [], ◌∷◌, length, Option, Some, None, slice_get, slice_set, option_map, unwrap_or}
+use Rattle.std.specs.Prelude.{ℕ, ◌≡◌, ◌≢◌, ◌≤◌, ◌⊎◌, List, [], ◌∷◌, length, Option, Some, None, slice_get, slice_set}
 use Rattle.enclave_memory.specs.declared.Block.{Block}
 use Rattle.enclave_memory.specs.Memory.{Memory, IsBlock, room_of}
+use Rattle.body_vm.specs.State.{with_change}
+
+-- an arena whose block of this number has other bytes
+abbrev pub with_bytes : Memory → ℕ → List ℕ → Memory
+with_bytes m number bytes = record m { blocks = slice_set m.blocks number bytes }
 
 -- the bytes of the block of this number, null where there is none
 abbrev pub bytes_at : Memory → Option ℕ → Option (List ℕ)
@@ -54,18 +59,22 @@ AreBehind count _ _ = ⊥
 
 -- each list has one in its place that is as long
 abbrev pub AreAsLong : List (List ℕ) → List (List ℕ) → Type 0
-AreAsLong before after = (n : ℕ) (bytes : List ℕ) → slice_get before n ≡ Some bytes → (now : List ℕ) × (slice_get after n ≡ Some now) × (length now ≡ length bytes)
+AreAsLong before after = (n : ℕ) (bytes : List ℕ) → slice_get before n ≡ Some bytes
+    → (now : List ℕ) × (slice_get after n ≡ Some now) × (length now ≡ length bytes)
 
--- the blocks of an arena have their places and lengths still, those without one of these numbers their bytes too, and what is new lies behind all
+-- the blocks of an arena have their places and lengths still, those without one of these numbers their bytes too, and
+-- what is new lies behind all
 pub record IsKept (before after : Memory) (numbers later : List (Option ℕ)) : Type 0 where
   pub size : after.size ≡ before.size
   pub lengths : AreAsLong before.blocks after.blocks
-  pub others : (n : ℕ) (bytes : List ℕ) → slice_get before.blocks n ≡ Some bytes → IsAbsent n numbers → slice_get after.blocks n ≡ Some bytes
+  pub others : (n : ℕ) (bytes : List ℕ) → slice_get before.blocks n ≡ Some bytes → IsAbsent n numbers
+      → slice_get after.blocks n ≡ Some bytes
   pub behind : AreBehind (length before.blocks) numbers later
 
 -- the block at a place, where it is not null, got the bytes that a change gives, and nothing else changed
-pub record IsChanged (before after : Memory) (blocks : List (Option Block)) (numbers : List (Option ℕ)) (place : ℕ) (change : List ℕ → List ℕ) : Type 0 where
+pub record IsChanged (before after : Memory) (blocks : List (Option Block)) (numbers : List (Option ℕ)) (place : ℕ)
+    (change : List ℕ → List ℕ) : Type 0 where
   pub held : IsHeld after blocks numbers
   pub kept : IsKept before after numbers numbers
-  pub blocks_are : blocks_in after numbers ≡ slice_set (blocks_in before numbers) place (option_map change (unwrap_or (slice_get (blocks_in before numbers) place) None))
+  pub blocks_are : blocks_in after numbers ≡ with_change (blocks_in before numbers) place change
   pub room : room_of after ≡ room_of before

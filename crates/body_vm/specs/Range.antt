@@ -47,7 +47,8 @@ IsInRange values blocks (Cload r cell) = r < 8
 IsInRange values blocks (Cswap r cell v) = IsSet values r v
 IsInRange values blocks (Cadd r cell v) = IsSet values r v
 IsInRange values blocks (Ccas r cell v w) = (r < 8) × IsOperand values v × IsOperand values w
-IsInRange values blocks (Ocall ret status ordinal args) = (ret < 8) × (status < 8) × (length args ≤ 64) × ArePassable values blocks args
+IsInRange values blocks (Ocall ret status ordinal args) =
+    (ret < 8) × (status < 8) × (length args ≤ 64) × ArePassable values blocks args
 IsInRange values blocks (Skipz r n) = r < 8
 IsInRange values blocks (Skipnz r n) = r < 8
 IsInRange values blocks (Return v) = IsOperand values v
@@ -61,4 +62,5 @@ skip_of _ = 0
 -- each action is in range, and passes over no more than there are behind it
 abbrev pub AreInRange : ℕ → ℕ → List Action → Type 0
 AreInRange values blocks [] = Unit {0}
-AreInRange values blocks (action ∷ rest) = IsInRange values blocks action × (skip_of action ≤ length rest) × AreInRange values blocks rest
+AreInRange values blocks (action ∷ rest) =
+    IsInRange values blocks action × (skip_of action ≤ length rest) × AreInRange values blocks rest

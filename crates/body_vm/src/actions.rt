@@ -23,7 +23,9 @@ pub(crate) fn computed(
 ) -> Option<(u8, u64)>
     requires range { IsInRange (array_vec_len values.now) (array_vec_len blocks.now) action.now }
     requires held { (numbers : List (Option ℕ)) × IsHeld arena.now blocks.now.items numbers }
-    ensures value { (numbers : List (Option ℕ)) → IsHeld arena.now blocks.now.items numbers → result ≡ computed_in (state_at values.now.items (moment regs.now blocks.now.items arena.now) numbers) action.now }
+    ensures value { (numbers : List (Option ℕ)) → IsHeld arena.now blocks.now.items numbers
+        → result
+        ≡ computed_in (state_at values.now.items (moment regs.now blocks.now.items arena.now) numbers) action.now }
     ensures register { IfSome result (λ (into, value). into < 8) }
 {
     Some(match action {
@@ -63,9 +65,12 @@ pub(crate) fn change(
 )
     requires range { IsInRange (array_vec_len values.now) (array_vec_len blocks.old) action.now }
     requires held { (numbers : List (Option ℕ)) × IsHeld arena.old blocks.old.items numbers }
-    ensures changed { (numbers : List (Option ℕ)) → IsHeld arena.old blocks.old.items numbers → (later : List (Option ℕ))
-        × IsOnward (moment regs.now blocks.old.items arena.old) (moment regs.now blocks.new.items arena.new) numbers later
-        × (state_at values.now.items (moment regs.now blocks.new.items arena.new) later ≡ changed (state_at values.now.items (moment regs.now blocks.old.items arena.old) numbers) action.now) }
+    ensures changed { (numbers : List (Option ℕ)) → IsHeld arena.old blocks.old.items numbers
+        → (later : List (Option ℕ))
+        × IsOnward (moment regs.now blocks.old.items arena.old) (moment regs.now blocks.new.items arena.new)
+        numbers later
+        × (state_at values.now.items (moment regs.now blocks.new.items arena.new) later
+        ≡ changed (state_at values.now.items (moment regs.now blocks.old.items arena.old) numbers) action.now) }
     ensures count { array_vec_len blocks.new ≡ array_vec_len blocks.old }
 {
     match action {

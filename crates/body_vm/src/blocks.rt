@@ -2,9 +2,10 @@
 
 ghost use Rattle.std.specs.Prelude.{ℕ, List, ◌≡◌, ◌≢◌, ◌<◌, ◌≤◌, ◌%◌, Option, Some, length, replicate, slice_get, slice_set};
 ghost use Rattle.arrayvec.specs.ArrayVec.{array_vec_len};
-ghost use Rattle.enclave_memory.specs.Memory.{Memory, IsBlock, IsLive, room_of};
-ghost use Rattle.body_vm.specs.State.{block as block_in, overlay, with_new_block};
-ghost use Rattle.body_vm.specs.Places.{blocks_in, IsHeld, IsKept, IsChanged};
+ghost use Rattle.enclave_memory.specs.Memory.{IsBlock, IsLive};
+ghost use Rattle.body_vm.specs.State.{block_among, overlay};
+ghost use Rattle.body_vm.specs.Places.{blocks_in, with_bytes, IsHeld, IsChanged};
+ghost use Rattle.body_vm.specs.Moments.{IsBegun};
 
 use crate::Blocks;
 use enclave_memory::{Arena, Block};
@@ -21,7 +22,8 @@ pub(crate) fn block_at(blocks: &Blocks, place: u32) -> Option<Block>
 pub(crate) fn bytes_of<'a>(blocks: &Blocks, arena: &'a Arena, place: u32) -> &'a [u8]
     requires held { (numbers : List (Option ℕ)) × IsHeld arena.now blocks.now.items numbers }
     requires within { place < array_vec_len blocks.now }
-    ensures bytes { (numbers : List (Option ℕ)) → IsHeld arena.now blocks.now.items numbers → (registers values : List ℕ) (room : ℕ) → result.now ≡ block_in (record { registers = registers; values = values; blocks = blocks_in arena.now numbers; room = room }) place }
+    ensures bytes { (numbers : List (Option ℕ)) → IsHeld arena.now blocks.now.items numbers
+        → result.now ≡ block_among (blocks_in arena.now numbers) place }
     ensures limit { length result.now ≤ 65536 }
 {
     match block_at(blocks, place) {
@@ -34,7 +36,8 @@ pub(crate) fn bytes_of<'a>(blocks: &Blocks, arena: &'a Arena, place: u32) -> &'a
 fn write_byte(arena: &mut Arena, block: Block, at: u32, byte: u8)
     requires live { IsLive arena.old block }
     requires within { at < block.length }
-    ensures { (number : ℕ) (bytes : List ℕ) → IsBlock arena.old block number bytes → arena.new ≡ record arena.old { blocks = slice_set arena.old.blocks number (slice_set bytes at byte) } }
+    ensures { (number : ℕ) (bytes : List ℕ) → IsBlock arena.old block number bytes
+        → arena.new ≡ with_bytes arena.old number (slice_set bytes at byte) }
 {
     arena.write(block, at, &[byte]);
 }
@@ -42,7 +45,8 @@ fn write_byte(arena: &mut Arena, block: Block, at: u32, byte: u8)
 /// Sets every byte of a block.
 fn fill_block(arena: &mut Arena, block: Block, byte: u8)
     requires { IsLive arena.old block }
-    ensures { (number : ℕ) (bytes : List ℕ) → IsBlock arena.old block number bytes → arena.new ≡ record arena.old { blocks = slice_set arena.old.blocks number (replicate (length bytes) byte) } }
+    ensures { (number : ℕ) (bytes : List ℕ) → IsBlock arena.old block number bytes
+        → arena.new ≡ with_bytes arena.old number (replicate (length bytes) byte) }
 {
     for at in 0..block.length {
         write_byte(arena, block, at, byte);
@@ -51,8 +55,11 @@ fn fill_block(arena: &mut Arena, block: Block, byte: u8)
 
 /// Makes the first bytes of one block those of another, as many as both have.
 fn copy_block(arena: &mut Arena, to: Block, from: Block)
-    requires { (number other : ℕ) × (these those : List ℕ) × IsBlock arena.old to number these × IsBlock arena.old from other those × (number ≢ other) }
-    ensures { (number other : ℕ) (these those : List ℕ) → IsBlock arena.old to number these → IsBlock arena.old from other those → number ≢ other → arena.new ≡ record arena.old { blocks = slice_set arena.old.blocks number (overlay these those) } }
+    requires { (number other : ℕ) × (these those : List ℕ)
+        × IsBlock arena.old to number these × IsBlock arena.old from other those × (number ≢ other) }
+    ensures { (number other : ℕ) (these those : List ℕ)
+        → IsBlock arena.old to number these → IsBlock arena.old from other those → number ≢ other
+        → arena.new ≡ with_bytes arena.old number (overlay these those) }
 {
     for at in 0..to.length.min(from.length) {
         let byte = arena.bytes(from)[at as usize];
@@ -64,7 +71,8 @@ fn copy_block(arena: &mut Arena, to: Block, from: Block)
 pub(crate) fn put(blocks: &Blocks, arena: &mut Arena, place: u32, at: u64, byte: u8)
     requires held { (numbers : List (Option ℕ)) × IsHeld arena.old blocks.now.items numbers }
     requires within { place < array_vec_len blocks.now }
-    ensures { (numbers : List (Option ℕ)) → IsHeld arena.old blocks.now.items numbers → IsChanged arena.old arena.new blocks.now.items numbers place (λ bytes. slice_set bytes at byte) }
+    ensures { (numbers : List (Option ℕ)) → IsHeld arena.old blocks.now.items numbers
+        → IsChanged arena.old arena.new blocks.now.items numbers place (λ bytes. slice_set bytes at byte) }
 {
     let Some(block) = block_at(blocks, place) else {
         return;
@@ -78,7 +86,8 @@ pub(crate) fn put(blocks: &Blocks, arena: &mut Arena, place: u32, at: u64, byte:
 pub(crate) fn fill(blocks: &Blocks, arena: &mut Arena, place: u32, byte: u8)
     requires held { (numbers : List (Option ℕ)) × IsHeld arena.old blocks.now.items numbers }
     requires within { place < array_vec_len blocks.now }
-    ensures { (numbers : List (Option ℕ)) → IsHeld arena.old blocks.now.items numbers → IsChanged arena.old arena.new blocks.now.items numbers place (λ bytes. replicate (length bytes) byte) }
+    ensures { (numbers : List (Option ℕ)) → IsHeld arena.old blocks.now.items numbers
+        → IsChanged arena.old arena.new blocks.now.items numbers place (λ bytes. replicate (length bytes) byte) }
 {
     let Some(block) = block_at(blocks, place) else {
         return;
@@ -91,8 +100,9 @@ pub(crate) fn copy(blocks: &Blocks, arena: &mut Arena, place: u32, source: u32)
     requires held { (numbers : List (Option ℕ)) × IsHeld arena.old blocks.now.items numbers }
     requires within { place < array_vec_len blocks.now }
     requires from { source < array_vec_len blocks.now }
-    ensures { (numbers : List (Option ℕ)) → IsHeld arena.old blocks.now.items numbers → (registers values : List ℕ) (room : ℕ)
-        → IsChanged arena.old arena.new blocks.now.items numbers place (λ bytes. overlay bytes (block_in (record { registers = registers; values = values; blocks = blocks_in arena.old numbers; room = room }) source)) }
+    ensures { (numbers : List (Option ℕ)) → IsHeld arena.old blocks.now.items numbers
+        → IsChanged arena.old arena.new blocks.now.items numbers place
+        (λ bytes. overlay bytes (block_among (blocks_in arena.old numbers) source)) }
 {
     if place == source {
         return;
@@ -111,9 +121,8 @@ pub(crate) fn begin(blocks: &mut Blocks, arena: &mut Arena, place: u32, length: 
     requires held { (numbers : List (Option ℕ)) × IsHeld arena.old blocks.old.items numbers }
     requires within { place < array_vec_len blocks.old }
     requires some { 0 < length }
-    ensures begun { (numbers : List (Option ℕ)) → IsHeld arena.old blocks.old.items numbers → (later : List (Option ℕ)) × IsHeld arena.new blocks.new.items later × IsKept arena.old arena.new numbers later
-        × ((registers values : List ℕ) → record { registers = registers; values = values; blocks = blocks_in arena.new later; room = room_of arena.new }
-        ≡ with_new_block (record { registers = registers; values = values; blocks = blocks_in arena.old numbers; room = room_of arena.old }) place length) }
+    ensures begun { (numbers : List (Option ℕ)) → IsHeld arena.old blocks.old.items numbers
+        → IsBegun arena.old arena.new blocks.new.items numbers place length }
     ensures count { array_vec_len blocks.new ≡ array_vec_len blocks.old }
 {
     let block = arena.push_block(length);

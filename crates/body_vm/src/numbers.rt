@@ -1,8 +1,8 @@
 //! Numbers that a body computes: operands, registers, and bytes of blocks.
 
-ghost use Rattle.std.specs.Prelude.{ℕ, List, ◌≡◌, ◌<◌, ◌≤◌, ◌%◌, Option, length, sum, slice_set, slice_index};
+ghost use Rattle.std.specs.Prelude.{◌≡◌, ◌<◌, ◌≤◌, ◌%◌, length, sum, slice_set, slice_index};
 ghost use Rattle.arrayvec.specs.ArrayVec.{array_vec_len};
-ghost use Rattle.body_vm.specs.State.{operand as operand_in};
+ghost use Rattle.body_vm.specs.State.{operand_over};
 ghost use Rattle.body_vm.specs.Range.{IsOperand};
 
 use crate::{Operand, Regs, Values};
@@ -18,7 +18,7 @@ pub fn answer(regs: &mut Regs, into: u8, value: u64)
 /// The number of an operand.
 pub(crate) fn number(operand: Operand, regs: &Regs, values: &Values) -> u64
     requires { IsOperand (array_vec_len values.now) operand }
-    ensures { (blocks : List (Option (List ℕ))) (room : ℕ) → result ≡ operand_in (record { registers = regs.now.regs; values = values.now.items; blocks = blocks; room = room }) operand }
+    ensures { result ≡ operand_over regs.now.regs values.now.items operand }
 {
     match operand {
         Operand::Number(number) => number,

@@ -19,7 +19,8 @@ use word_port::Kind;
 /// An argument as it is handed over, with its block.
 fn argument(pass: Pass, regs: &Regs, values: &Values, blocks: &Blocks) -> Arg
     requires { IsPassable (array_vec_len values.now) (array_vec_len blocks.now) pass }
-    ensures { (numbers : List (Option ℕ)) (arena : Memory) → result ≡ handed blocks.now.items (passed_argument (state_at values.now.items (moment regs.now blocks.now.items arena) numbers) pass) }
+    ensures { (numbers : List (Option ℕ)) (arena : Memory) → result ≡ handed blocks.now.items
+        (passed_argument (state_at values.now.items (moment regs.now blocks.now.items arena) numbers) pass) }
 {
     match pass {
         Pass::Value(value) => Arg::Value(number(value, regs, values)),
@@ -32,7 +33,9 @@ fn argument(pass: Pass, regs: &Regs, values: &Values, blocks: &Blocks) -> Arg
 fn arguments(passes: &[Pass], regs: &Regs, values: &Values, blocks: &Blocks) -> Args
     requires range { ArePassable (array_vec_len values.now) (array_vec_len blocks.now) passes.now }
     requires limit { length passes.now ≤ 64 }
-    ensures { (numbers : List (Option ℕ)) (arena : Memory) → result.items ≡ map (handed blocks.now.items) (map (passed_argument (state_at values.now.items (moment regs.now blocks.now.items arena) numbers)) passes.now) }
+    ensures { (numbers : List (Option ℕ)) (arena : Memory) → result.items ≡ map (handed blocks.now.items)
+        (map (passed_argument (state_at values.now.items (moment regs.now blocks.now.items arena) numbers))
+        passes.now) }
 {
     let mut args = Args::new();
     for pass in passes {
@@ -45,7 +48,9 @@ fn arguments(passes: &[Pass], regs: &Regs, values: &Values, blocks: &Blocks) -> 
 pub(crate) fn asked(action: &Action, regs: &Regs, values: &Values, blocks: &Blocks) -> Option<Need>
     requires { IsInRange (array_vec_len values.now) (array_vec_len blocks.now) action.now }
     ensures { (numbers : List (Option ℕ)) (arena : Memory) (rest : List AnAction)
-        → MatchOption result (is_asking action.now ≡ false) (λ need. IsNeed need (execution_from (state_at values.now.items (moment regs.now blocks.now.items arena) numbers) zero (action.now ∷ rest))
+        → MatchOption result (is_asking action.now ≡ false) (λ need. IsNeed need
+        (execution_from (state_at values.now.items (moment regs.now blocks.now.items arena) numbers) zero
+        (action.now ∷ rest))
         (state_at values.now.items (moment regs.now blocks.now.items arena) numbers) blocks.now.items rest) }
 {
     Some(match action {

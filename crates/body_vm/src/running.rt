@@ -28,9 +28,13 @@ fn carry_out(
     requires held { (numbers : List (Option ℕ)) × IsHeld arena.old blocks.old.items numbers }
     requires short { regs.old.next + skip_of action.now < 2 ^ 32 }
     ensures done { (numbers : List (Option ℕ)) → IsHeld arena.old blocks.old.items numbers → (later : List (Option ℕ))
-        × IsOnward (moment regs.old blocks.old.items arena.old) (moment regs.new blocks.new.items arena.new) numbers later
-        × ((rest : List AnAction) → IsDone result (execution_from (state_at values.now.items (moment regs.old blocks.old.items arena.old) numbers) zero (action.now ∷ rest))
-        (state_at values.now.items (moment regs.new blocks.new.items arena.new) later) blocks.new.items (drop (regs.new.next - regs.old.next) rest)) }
+        × IsOnward (moment regs.old blocks.old.items arena.old) (moment regs.new blocks.new.items arena.new)
+        numbers later
+        × ((rest : List AnAction) → IsDone result
+        (execution_from (state_at values.now.items (moment regs.old blocks.old.items arena.old) numbers) zero
+        (action.now ∷ rest))
+        (state_at values.now.items (moment regs.new blocks.new.items arena.new) later) blocks.new.items
+        (drop (regs.new.next - regs.old.next) rest)) }
     ensures count { array_vec_len blocks.new ≡ array_vec_len blocks.old }
     ensures from { regs.old.next ≤ regs.new.next }
     ensures within { regs.new.next ≤ regs.old.next + skip_of action.now }
@@ -63,9 +67,11 @@ pub fn run_until(
     requires next { regs.old.next ≤ length body.now.actions }
     requires held { (numbers : List (Option ℕ)) × IsHeld arena.old blocks.old.items numbers }
     ensures need { (numbers : List (Option ℕ)) → IsHeld arena.old blocks.old.items numbers → (later : List (Option ℕ))
-        × IsOnward (moment regs.old blocks.old.items arena.old) (moment regs.new blocks.new.items arena.new) numbers later
+        × IsOnward (moment regs.old blocks.old.items arena.old) (moment regs.new blocks.new.items arena.new)
+        numbers later
         × IsNeed result (execution_at body.now.actions values.now.items regs.old blocks.old.items arena.old numbers)
-        (state_at values.now.items (moment regs.new blocks.new.items arena.new) later) blocks.new.items (drop regs.new.next body.now.actions) }
+        (state_at values.now.items (moment regs.new blocks.new.items arena.new) later) blocks.new.items
+        (drop regs.new.next body.now.actions) }
     ensures next { regs.new.next ≤ length body.now.actions }
     ensures further { IsFurther result regs.old.next regs.new.next }
     ensures count { array_vec_len blocks.new ≡ array_vec_len blocks.old }

@@ -6,7 +6,7 @@ use Rattle.body_vm.proofs.WriteLaws.{length_overlay, overlay_self, overlay_none}
 use Rattle.body_vm.proofs.blocks.copy.Goals as goal
 
 pub returns-then-place-source : goal.returns-then-place-source
-returns-then-place-source c = λ numbers held registers values room.
+returns-then-place-source c = λ numbers held.
     let read : ℕ → List ℕ = λ place. unwrap_or (unwrap_or (slice_get (blocks_in c.args.arena.now numbers) place) None) [] in
     let change : ℕ → List ℕ → List ℕ = λ place bytes. overlay bytes (read place) in
     let same : IsChanged c.args.arena.now c.args.arena.now c.args.blocks.now.items numbers c.args.place (change c.args.place) =
@@ -20,10 +20,10 @@ returns-then-place-source c = λ numbers held registers values room.
     subst (λ place. IsChanged c.args.arena.now c.args.arena.now c.args.blocks.now.items numbers c.args.place (change place)) c.if-place-source.true same
 
 pub returns-in_default : goal.returns-in_default
-returns-in_default c = λ numbers held registers values room. null_changed c.args.arena.now c.args.blocks.now.items numbers c.args.place _ held c.in_default.ensures
+returns-in_default c = λ numbers held. null_changed c.args.arena.now c.args.blocks.now.items numbers c.args.place _ held c.in_default.ensures
 
 pub returns-in_default-block_at : goal.returns-in_default-block_at
-returns-in_default-block_at c = λ numbers held registers values room.
+returns-in_default-block_at c = λ numbers held.
     let p : IsPlaced c.args.arena.now numbers c.args.place c.in-Some.to = placed c.args.arena.now c.args.blocks.now.items numbers c.args.place c.in-Some.to held.numbered c.in-Some.ensures in
     same_changed c.args.arena.now c.args.blocks.now.items numbers c.args.place c.in-Some.to _ p held
     (ap (λ bytes. overlay p.bytes bytes) (read_none c.args.arena.now c.args.blocks.now.items numbers c.args.source held.numbered c.in_default-block_at.ensures) ∙ overlay_none p.bytes)
@@ -36,7 +36,7 @@ copy_block-requires c =
     (p.number, q.number, p.bytes, q.bytes, p.block_is, q.block_is, places_apart numbers c.args.place c.args.source p.number q.number held.apart c.if-place-source.false p.found q.found)
 
 pub returns : goal.returns
-returns c = λ numbers held registers values room.
+returns c = λ numbers held.
     let p : IsPlaced c.args.arena.now numbers c.args.place c.in-Some.to = placed c.args.arena.now c.args.blocks.now.items numbers c.args.place c.in-Some.to held.numbered c.in-Some.ensures in
     let q : IsPlaced c.args.arena.now numbers c.args.source c.in-Some-block_at.from = placed c.args.arena.now c.args.blocks.now.items numbers c.args.source c.in-Some-block_at.from held.numbered c.in-Some-block_at.ensures in
     let apart : p.number ≢ q.number = places_apart numbers c.args.place c.args.source p.number q.number held.apart c.if-place-source.false p.found q.found in
