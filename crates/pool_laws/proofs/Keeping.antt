@@ -1,9 +1,7 @@
 -- Behaviours that keep to the rules of a slot: their parts, and their logs.
-use Rattle.std.proofs.Common.{ℕ, zero, suc, ◌≡◌, ◌≢◌, ◌≤◌, IsTrue, List, [], ◌++◌, Option, refl, sym, ◌∙◌, ap, subst, arith}
-use Rattle.word_port.specs.declared.Step.{Step}
-use Rattle.word_port.specs.Requests.{Request, step_of}
-use Rattle.word_port.specs.Events.{Event, new_record, waiting_look, steps_of, waits_in}
-use Rattle.word_port.specs.Port.{with_steps}
+use Rattle.std.proofs.Common.{ℕ, zero, suc, ◌≡◌, ◌≢◌, ◌≤◌, IsTrue, [], ◌++◌, refl, sym, ◌∙◌, ap, subst, arith}
+use Rattle.word_port.specs.Requests.{Request}
+use Rattle.word_port.specs.Events.{new_record, waiting_look, steps_of, waits_in}
 use Rattle.word_port.specs.Limits.{Progress}
 use Rattle.word_port.specs.Interaction.{Interaction, ret, ask, here, tick, and_then, AllRequests}
 use Rattle.word_port.specs.Runs.{Reaches}
@@ -126,3 +124,8 @@ weaker_requests P Q f (ret x) h = tt
 weaker_requests P Q f (ask q next) h = (f q h.0, λ n. weaker_requests P Q f (next n) (h.1 n))
 weaker_requests P Q f (here next) h = λ n. weaker_requests P Q f (next n) (h n)
 weaker_requests P Q f (tick k next) h = weaker_requests P Q f next h
+
+-- a participant makes no more waiting looks than it had
+pub few_looks : {A : Type 0} (t rest : Interaction A) (before after : Progress) (r : Reaches t before after rest)
+    → waits_in r.events ≤ before.waits
+few_looks t rest before after r = let all = r.waits in omega (arith, all)

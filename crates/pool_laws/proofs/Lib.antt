@@ -1,2 +1,11 @@
+pub mod Acts
+pub mod ByRoles
+pub mod Ecalls
+pub mod HostCalls
 pub mod Keeping
+pub mod Ocalls
+pub mod Participants
+pub mod PlainMachines
+pub mod Pools
+pub mod Transfers
 pub mod Workers

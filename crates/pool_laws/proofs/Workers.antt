@@ -1,15 +1,13 @@
 -- A worker keeps to the rules of its own pool's slots, and where it serves by a behaviour that keeps to those of
 -- another pool, of these too.
-use Rattle.std.proofs.Common.{ℕ, zero, suc, ◌+◌, ◌≡◌, ◌≢◌, ◌<◌, ◌≤◌, ◌==◌, Bool, true, false, if◌then◌else◌, List, [], ◌++◌, Option, Some, None, refl, sym, subst, arith}
+use Rattle.std.proofs.Common.{ℕ, zero, suc, ◌+◌, ◌≢◌, ◌<◌, ◌≤◌, ◌==◌, Bool, true, false, if◌then◌else◌, List, [], ◌++◌, Option, Some, None, refl, sym, subst, arith}
 use Rattle.word_port.specs.declared.Side.TheVariants.{Pool as by_pool}
-use Rattle.word_port.specs.Requests.{Request, step_of}
-use Rattle.word_port.specs.Interaction.{Interaction, ret, and_then, map_value, AllRequests}
+use Rattle.word_port.specs.Interaction.{ret, and_then, map_value, AllRequests}
 use Rattle.word_port.specs.Accesses.{load}
 use Rattle.switchless.specs.declared.Pool.{Pool}
 use Rattle.switchless.specs.Slots.{ordinal_in, frame_in}
-use Rattle.switchless.specs.Caller.{more_than_any}
-use Rattle.switchless.specs.Worker.{scan, accept, finish, Served, WorkerSetup, must_stop, serve_slot, if_accepted, if_offered, Round, slots_from, one_round, rounds, worker}
-use Rattle.switchless_laws.specs.Phases.{Phase, idle}
+use Rattle.switchless.specs.Worker.{scan, accept, finish, WorkerSetup, must_stop, serve_slot, if_accepted, if_offered, Round, slots_from, one_round, rounds, worker}
+use Rattle.switchless_laws.specs.Phases.{idle}
 use Rattle.switchless_laws.specs.Moments.{IsSlotOf, HoldsNothing}
 use Rattle.switchless_laws.specs.Roles.{IsElsewhere}
 use Rattle.switchless_laws.proofs.WorkerFollows.{worker_follows}

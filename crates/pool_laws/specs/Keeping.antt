@@ -15,8 +15,7 @@ after_look zero KeepsOn = Unit {0}
 after_look (suc waits) KeepsOn = KeepsOn waits
 
 -- from this phase on, with so many waiting looks left, and whatever the answers: each step is a move at the slot, and
--- in the end nothing of
--- its own is there
+-- in the end nothing of its own is there
 abbrev pub KeepsTo : {A : Type 0} → ℕ → Phase → ℕ → Interaction A → Type 0
 KeepsTo slot phase waits (ret x) = phase ≡ idle
 KeepsTo slot phase waits (ask q next) = (n : ℕ) → (m : Phase) × IsMove slot phase (step_of q n) m

@@ -1,0 +1,84 @@
+-- The machines that the engine runs are such machines.
+use Rattle.std.proofs.Common.{ℕ, ◌≡◌, inl, inr, List, [], ◌∷◌, length, Some, slice_get, All, refl, ap, sym, ◌∙◌, subst, arith}
+use Rattle.std.specs.Prelude.{unwrap_or}
+use Rattle.std.proofs.lemmas.List.Elements.{All-head, All-tail}
+use Rattle.edl_interface.specs.declared.Class.{Class}
+use Rattle.edl_interface.specs.declared.Class.TheVariants.{Plain as by_value, UserCheck, Buffer, Text, Fixed, Foreign}
+use Rattle.edl_interface.specs.declared.Param.{Param}
+use Rattle.edl_interface.specs.declared.Function.{Function}
+use Rattle.edl_interface.specs.declared.Interface.{Interface}
+use Rattle.edl_interface.specs.Parameters.{field_size}
+use Rattle.body_vm.specs.declared.Action.{Action}
+use Rattle.call_script.specs.declared.CallArg.{CallArg}
+use Rattle.call_script.specs.declared.CallArg.TheVariants.{At, Null, Number, Bytes}
+use Rattle.call_script.specs.declared.HostAct.{HostAct}
+use Rattle.call_script.specs.PlainScript.{IsArgument, AreArguments, IsPlainCall}
+use Rattle.call_machine.specs.declared.Machine.{Machine}
+use Rattle.call_machine.specs.Ecall.{actions_of}
+use Rattle.call_machine.specs.Plain.{IsPlainMachine}
+use Rattle.call_machine.specs.Reported.{acts_at}
+use Rattle.call_machine.proofs.SoundMachines.{IsSum, sum_body, plain_sound}
+use Rattle.pool_laws.specs.Machines.{AreOnCells, FillsField, FillFields, IsFittingAct, AreFitting, IsBoundedMachine, HasStackFor}
+
+sum_on_cells : (cells : ℕ) (actions : List Action) → IsSum actions → AreOnCells cells actions
+sum_on_cells cells actions (inl e) = rw e tt
+sum_on_cells cells actions (inr (place, e)) = rw e (tt, (tt, tt))
+
+none_found : (fs : List Function) (ordinal : ℕ) (f : Function) → fs ≡ [] → slice_get fs ordinal ≡ Some f → ⊥
+none_found [] ordinal f e found = cc
+none_found (g ∷ fs) ordinal f e found = cc
+
+argument_fills : (p : Param) (class : Class) (arg : CallArg) → p.class ≡ class → IsArgument class arg → FillsField p arg
+argument_fills p class (At place) e h = tt
+argument_fills p class Null e h = tt
+argument_fills p class (Number n) e h = tt
+argument_fills p (by_value plain) (Bytes bytes) e h = subst (λ c. length bytes ≡ field_size c) (sym e) h.1
+argument_fills p UserCheck (Bytes bytes) e h = absurd h
+argument_fills p (Buffer way size count unit) (Bytes bytes) e h = absurd h
+argument_fills p (Text way unit) (Bytes bytes) e h = absurd h
+argument_fills p (Fixed way n unit) (Bytes bytes) e h = absurd h
+argument_fills p (Foreign way) (Bytes bytes) e h = absurd h
+
+arguments_fill : (params : List Param) (args : List CallArg) → AreArguments params args → FillFields params args
+arguments_fill [] args h = tt
+arguments_fill (p ∷ params) [] h = tt
+arguments_fill (p ∷ params) (arg ∷ args) h = (argument_fills p p.class arg refl h.0, arguments_fill params args h.1)
+
+call_fits : (i : Interface) (act : HostAct) → IsPlainCall i act → IsFittingAct i act
+call_fits i act h = subst (λ a. IsFittingAct i a) (sym h.act_is) by_found
+  where
+    by_found : (f : Function) → slice_get i.ecalls h.ordinal ≡ Some f → FillFields f.params h.args
+    by_found f found =
+        let same : Some h.function ≡ Some f = sym h.found ∙ found in
+        let one : h.function ≡ f = cc in
+        subst (λ g. FillFields g.params h.args) one (arguments_fill h.function.params h.args h.fits)
+
+acts_fit : (i : Interface) (acts : List HostAct) → All (IsPlainCall i) acts → AreFitting i acts
+acts_fit i [] h = tt
+acts_fit i (act ∷ acts) h = (
+  call_fits i act (All-head (IsPlainCall i) act acts h),
+  acts_fit i acts
+      (All-tail (IsPlainCall i) act acts h),
+)
+
+module _ (m : Machine) (plain : IsPlainMachine m) where
+  pub plain_pools : IsBoundedMachine m
+  plain_pools =
+      let ecalls = plain.interface.few in
+      let none = plain.interface.no_ocalls in
+      record {
+        sound = plain_sound m plain;
+        host = plain.script.settings.host_upto;
+        ecalls = omega (arith, ecalls);
+        ocalls = (let no : length m.interface.ocalls ≡ 0 = ap (λ (fs : List Function). length fs) none in omega
+            (arith, no));
+        cells = λ ordinal. sum_on_cells m.script.settings.cells (actions_of m ordinal) (sum_body m ordinal plain);
+        handlers = λ ordinal f found. absurd (none_found m.interface.ocalls ordinal f none found);
+      }
+
+  pub plain_acts : AreFitting m.interface (acts_at m 0)
+  plain_acts = subst (λ threads. AreFitting m.interface (unwrap_or (slice_get threads 0) []))
+      (sym plain.script.threads) (acts_fit m.interface plain.script.acts plain.script.calls)
+
+  pub plain_stack : HasStackFor m.script.settings 0
+  plain_stack = let fits = plain.script.settings.stack_fits in omega (arith, fits)
