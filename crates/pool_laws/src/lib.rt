@@ -2,7 +2,7 @@
 //! rules of slots, so what callers took is what workers served.
 #![tactic(auto)]
 
-ghost use Rattle.std.specs.Prelude.{ℕ, ◌≡◌, ◌≤◌, ◌^◌, List, [], ◌++◌, IsTrue};
+ghost use Rattle.std.specs.Prelude.{ℕ, ◌≡◌, ◌≤◌, ◌^◌, List, [], ◌∷◌, ◌++◌, IsTrue};
 ghost use Rattle.std.specs.List.{All};
 ghost use Rattle.word_port.specs.declared.Step.{Step};
 ghost use Rattle.word_port.specs.History.{history_of, words_in_the_end};
@@ -12,7 +12,7 @@ ghost use Rattle.word_port.specs.Interaction.{Interaction, AllRequests};
 ghost use Rattle.word_port.specs.Runs.{Reaches, Runs};
 ghost use Rattle.switchless.specs.declared.Pool.{Pool};
 ghost use Rattle.switchless.specs.Slots.{is_offered};
-ghost use Rattle.switchless.specs.Counts.{Agree};
+ghost use Rattle.switchless.specs.Counts.{Agree, taken_in};
 ghost use Rattle.switchless.specs.Caller.{caller, more_than_any};
 ghost use Rattle.switchless.specs.Worker.{WorkerSetup, worker};
 ghost use Rattle.switchless_laws.specs.Moments.{AreFree, KeepsSlots, LeavesSlots, IsHistory, IsCounted};
@@ -23,6 +23,7 @@ ghost use Rattle.call_machine.specs.Context.{first_context};
 ghost use Rattle.call_machine.specs.Plain.{IsPlainMachine};
 ghost use Rattle.call_machine.specs.Reported.{beginning, acts_at};
 ghost use Rattle.call_machine.specs.Thread.{thread, racer_acts};
+ghost use Rattle.pool_laws.specs.Example.{pooled_machine, calling, serving, handling, all_steps, the_call};
 ghost use Rattle.pool_laws.specs.Keeping.{KeepsPool, AreApart};
 ghost use Rattle.pool_laws.specs.Machines.{AreFitting, IsBoundedMachine, HasStackFor};
 ghost use Rattle.pool_laws.specs.Participants.{trusted_worker, untrusted_worker, IsPoolOf, IsParticipantOf};
@@ -91,4 +92,16 @@ pub fn plain_machines_law()
     ensures machine { (m : Machine) → IsPlainMachine m → IsBoundedMachine m }
     ensures acts { (m : Machine) → IsPlainMachine m → AreFitting m.interface (acts_at m 0) }
     ensures stack { (m : Machine) → IsPlainMachine m → HasStackFor m.script.settings 0 }
+{}
+
+/// There are histories as these laws speak of: a host thread calls, a worker serves the ECALL, and its body makes an
+/// OCALL that a worker of the other pool serves.
+pub fn example_law()
+    ensures machine { IsBoundedMachine pooled_machine }
+    ensures calling { IsParticipantOf pooled_machine calling }
+    ensures serving { IsParticipantOf pooled_machine serving }
+    ensures handling { IsParticipantOf pooled_machine handling }
+    ensures history { (pool : Pool) → IsPoolOf pooled_machine pool →
+        IsHistory pool pooled_machine.script.words (calling ∷ serving ∷ handling ∷ []) all_steps }
+    ensures taken { (pool : Pool) → IsPoolOf pooled_machine pool → taken_in pool all_steps ≡ the_call ∷ [] }
 {}
