@@ -83,7 +83,7 @@ pub fn put_range<P: WordPort>(
 
 /// Stores zeros so many bytes past an address.
 #[tactic(auto, using(word_port::proofs::AccessLaws::access_laws))]
-pub(crate) fn put_zeros<P: WordPort>(
+pub fn put_zeros<P: WordPort>(
     port: &mut P,
     side: Side,
     at: u64,
