@@ -1,0 +1,7 @@
+pub mod ArgumentLaws
+pub mod ContentLaws
+pub mod LoadLaws
+pub mod PutLaws
+pub mod ReplyLaws
+pub mod StructureLaws
+pub mod WholeLaws
