@@ -1,5 +1,6 @@
 pub mod ArgumentLaws
 pub mod ContentLaws
+pub mod FrameLaws
 pub mod LoadLaws
 pub mod PutLaws
 pub mod ReplyLaws
