@@ -1,5 +1,5 @@
 -- The lines of a script, the words of a line, and what a word spells.
-use Rattle.std.specs.Prelude.{ℕ, ◌+◌, Bool, true, false, not, ◌&&◌, ◌||◌, ◌==◌, if◌then◌else◌, nat_eq, nat_le, List, [], ◌∷◌, drop, position, take_while, Option, Some, None, is_none, is_some, Result, Ok, Err, codes}
+use Rattle.std.specs.Prelude.{ℕ, ◌+◌, Bool, true, false, not, ◌&&◌, ◌||◌, ◌==◌, if◌then◌else◌, nat_eq, nat_le, List, [], ◌∷◌, ◌++◌, drop, position, take_while, Option, Some, None, is_none, is_some, Result, Ok, Err, codes}
 use Rattle.std.specs.List.{list_all, list_any, starts_with}
 use Rattle.std.specs.Str.{bytes_eq}
 use Rattle.std.specs.Char.{is_ascii_digit, is_ascii_alphabetic}
@@ -90,14 +90,22 @@ is_out_of least most w = is_number w && not (is_from_to least most (spelled_numb
 
 -- ---- names
 
--- the words of the language of interfaces, which are no names
-abbrev pub reserved_words : List Word
-reserved_words =
+-- the words of the language of interfaces, which are no names: those of files and blocks, of types, and of numbers
+abbrev pub file_words : List Word
+file_words =
     codes "enclave" ∷ codes "include" ∷ codes "from" ∷ codes "import" ∷ codes "trusted" ∷ codes "untrusted"
-    ∷ codes "public" ∷ codes "allow" ∷ codes "transition_using_threads"
-    ∷ codes "enum" ∷ codes "struct" ∷ codes "union" ∷ codes "const" ∷ codes "void"
-    ∷ codes "char" ∷ codes "short" ∷ codes "int" ∷ codes "long" ∷ codes "signed" ∷ codes "unsigned"
-    ∷ codes "float" ∷ codes "double" ∷ []
+    ∷ codes "public" ∷ codes "allow" ∷ codes "transition_using_threads" ∷ []
+
+abbrev pub type_words : List Word
+type_words = codes "enum" ∷ codes "struct" ∷ codes "union" ∷ codes "const" ∷ codes "void" ∷ []
+
+abbrev pub number_words : List Word
+number_words =
+    codes "char" ∷ codes "short" ∷ codes "int" ∷ codes "long" ∷ codes "signed" ∷ codes "unsigned" ∷ codes "float"
+    ∷ codes "double" ∷ []
+
+abbrev pub reserved_words : List Word
+reserved_words = file_words ++ (type_words ++ number_words)
 
 abbrev pub is_letter : ℕ → Bool
 is_letter b = is_ascii_alphabetic b || b == 95
