@@ -6,6 +6,7 @@ use Rattle.sgx_base.specs.declared.Fault.{Fault}
 use Rattle.edl_lexer.specs.declared.Token.{Token}
 use Rattle.edl_lexer.specs.declared.LexFault.{LexFault}
 use Rattle.edl_lexer.specs.declared.LexFault.TheVariants as lexical
+use Rattle.edl_lexer.specs.FirstFault.{HasLexFault}
 use Rattle.edl_lexer.specs.Lexing.{lexing}
 use Rattle.edl_grammar.specs.declared.EdlFile.{EdlFile}
 use Rattle.edl_grammar.specs.declared.Import.{Import}
@@ -31,7 +32,7 @@ free : (f : Fault) (e : RuleFault) → e ≡ Rule f → e ≡ Memory → ⊥
 free f e p q = let clash : Rule f ≡ Memory = sym p ∙ q in absurd cc
 
 -- the lexer's refusal
-pub told_by_lexer : (bytes : List ℕ) (e : LexFault) → (e ≡ lexical.Memory) ⊎ (lexing 0 bytes ≡ Err e) → OrMemory Memory (Told (IsMisread bytes)) (of_lexer e)
+pub told_by_lexer : (bytes : List ℕ) (e : LexFault) → OrMemory lexical.Memory (HasLexFault 0 bytes) e → OrMemory Memory (Told (IsMisread bytes)) (of_lexer e)
 told_by_lexer bytes e (inl m) = told_by (IsMisread bytes) (of_lexer e) (λ f is. absurd (free f (of_lexer e) is (ap of_lexer m)))
 told_by_lexer bytes e (inr h) = told_by (IsMisread bytes) (of_lexer e) (λ f is. no_tokens e h is)
 

@@ -5,6 +5,7 @@ use Rattle.sgx_base.specs.declared.Fault.{Fault}
 use Rattle.edl_lexer.specs.declared.Token.{Token}
 use Rattle.edl_lexer.specs.declared.LexFault.{LexFault}
 use Rattle.edl_lexer.specs.declared.LexFault.TheVariants as lexical
+use Rattle.edl_lexer.specs.FirstFault.{HasLexFault}
 use Rattle.edl_lexer.specs.Lexing.{lexing}
 use Rattle.edl_grammar.specs.declared.EdlFile.{EdlFile}
 use Rattle.edl_grammar.specs.declared.Import.{Import}
@@ -82,7 +83,7 @@ IsAtFirst imports tokens f =
 
 -- the bytes have no tokens, or are no sentence, or import a file, which would be one too many
 pub data IsMisread (bytes : List ℕ) (f : Fault) : Type 0 where
-  no_tokens : (e : LexFault) → lexing 0 bytes ≡ Err e → of_lexer e ≡ Rule f → IsMisread bytes f
+  no_tokens : (e : LexFault) → HasLexFault 0 bytes e → of_lexer e ≡ Rule f → IsMisread bytes f
   no_tree : (tokens : List Token) (e : ParseFault) → lexing 0 bytes ≡ Ok tokens → Parses 0 bytes tokens (Err e)
       → of_parser e ≡ Rule f → IsMisread bytes f
   second_file : (tokens : List Token) (tree : EdlFile) (first : Import) (rest : List Import)

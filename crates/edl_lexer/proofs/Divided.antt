@@ -22,7 +22,8 @@ use Rattle.edl_lexer.specs.declared.scan.Lexeme.TheVariants.{Gap, Piece, No}
 use Rattle.edl_lexer.specs.Lexemes.{lexeme, lexeme_after, is_letter, class_of}
 use Rattle.edl_lexer.specs.Lexing.{lexing, max_tokens, mark_len, opening, tokens_from, after, step, token, with_token, fault_of, is_number as is_number_kind}
 use Rattle.edl_lexer.specs.Division.{AreTokensOf, HasNoTokens, behind_mark, first_place, is_lexeme, IsLongest, AreLongest, AreNumbersSound, BeginsWith, DivisionIsUnique, is_number, kind_of, kind_by, is_number_of, tokens_of}
-use Rattle.edl_lexer.specs.FirstFault.{HasNoLexeme, BeginsWithToken, HasFlaw, HasLexFault, FaultIsUnique, OrMemory, opens_comment}
+use Rattle.sgx_base.specs.Outcome.{OrMemory}
+use Rattle.edl_lexer.specs.FirstFault.{HasNoLexeme, BeginsWithToken, HasFlaw, HasLexFault, FaultIsUnique, opens_comment}
 use Rattle.edl_lexer.proofs.Reading.{Read, Stops, Reads, reads, letter_reads, left_of}
 use Rattle.edl_lexer.proofs.Turns.{with_front, with_front-nothing, with_front-front, with_front-one, skip, gap_turn, piece_turn, full, flawed}
 

@@ -9,10 +9,6 @@ use Rattle.edl_lexer.specs.Lexemes.{is_letter}
 use Rattle.edl_lexer.specs.Lexing.{after, fault_of, max_tokens}
 use Rattle.edl_lexer.specs.Division.{is_lexeme, is_number, kind_of, IsLongest, BeginsWith, tokens_of, behind_mark, first_place}
 
--- the answer is the one that tells that memory ran out, or it is so
-abbrev pub OrMemory : {A : Type 0} → A → (A → Type 0) → A → Type 0
-OrMemory memory Is answer = (answer ≡ memory) ⊎ Is answer
-
 -- no bytes at the front are a lexeme
 abbrev pub HasNoLexeme : List ℕ → Type 0
 HasNoLexeme bytes = (n : ℕ) → n ≤ length bytes → IsFalse (is_lexeme (take n bytes))

@@ -2,10 +2,11 @@
 #![tactic(auto)]
 
 ghost use Rattle.std.specs.Prelude.{◌≡◌, ◌≤◌, length, IfOk, IfErr, Ok};
+ghost use Rattle.sgx_base.specs.Outcome.{OrMemory};
 ghost use Rattle.sgx_base.specs.Stores.{max_file_size};
 ghost use Rattle.edl_lexer.specs.Bounds.{LieIn, AreInOrder};
 ghost use Rattle.edl_lexer.specs.Division.{AreTokensOf, HasNoTokens, DivisionIsUnique};
-ghost use Rattle.edl_lexer.specs.FirstFault.{HasLexFault, FaultIsUnique, OrMemory};
+ghost use Rattle.edl_lexer.specs.FirstFault.{HasLexFault, FaultIsUnique};
 ghost use Rattle.edl_lexer.specs.Lexing as spec;
 ghost use Rattle.edl_lexer.specs.declared.LexFault.TheVariants.{Memory};
 
