@@ -1,6 +1,5 @@
 -- The record of an ECALL, from its place in the list to its end.
-use Rattle.std.proofs.Common.{ℕ, ◌+◌, ◌≡◌, ◌<◌, ◌≤◌, List, [], ◌∷◌, ◌++◌, length, slice_set, Option, Some, None, Result, Ok, Err, IsSome, slice_get, refl, ap, sym, ◌∙◌, subst, arith, length-append}
-use Rattle.sgx_base.specs.declared.Status.{Status}
+use Rattle.std.proofs.Common.{ℕ, ◌+◌, ◌≡◌, ◌<◌, ◌≤◌, List, [], ◌∷◌, ◌++◌, length, slice_set, Option, Some, None, IsSome, slice_get, refl, ap, sym, ◌∙◌, subst, arith, length-append}
 use Rattle.sgx_base.specs.declared.TheConstants.Status.{SUCCESS}
 use Rattle.edl_interface.specs.declared.Function.{Function}
 use Rattle.edl_interface.specs.declared.Interface.{Interface}

@@ -1,4 +1,4 @@
-//! An ECALL: the one load of its frame, the copies of its parameters, its body, and its answer.
+//! An ECALL: a snapshot of its arguments (its frame and its parameters, each loaded once), its body, and its answer.
 
 ghost use Rattle.std.specs.Prelude.{ℕ, List, [], ◌≡◌, ◌≢◌, ◌≤◌, length, slice_set, slice_get, Option, Some, Ok, IfOk, IfErr, OnOk, IsTrue};
 ghost use Rattle.sgx_base.specs.Bytes.{low_bytes};
