@@ -23,7 +23,8 @@ AreOfKinds [] [] = Unit {0}
 AreOfKinds (p ∷ params) (a ∷ args) = (has_place a ≡ is_marshalled p.class) × AreOfKinds params args
 AreOfKinds _ _ = ⊥
 
--- what an OCALL may be made with: a function that a run passes, and an argument of each parameter's kind, whose block is live
+-- what an OCALL may be made with: a function that a run passes, and an argument of each parameter's kind, whose block
+-- is live
 pub record MayCall (f : Function) (args : List Arg) (arena : Memory) : Type 0 where
   pub runs : IsRunnableFunction false f
   pub small : f.frame_size ≤ 1024

@@ -48,7 +48,8 @@ measured_argument f structure (p, a) =
 -- the same of each argument, where the OCALL is not refused for any
 abbrev pub measured : Function → List ℕ → List (Param × Argument) → Option (List ℕ)
 measured f structure [] = Some []
-measured f structure (x ∷ pairs) = option_and_then (λ n. option_map (λ ns. n ∷ ns) (measured f structure pairs)) (measured_argument f structure x)
+measured f structure (x ∷ pairs) = option_and_then (λ n. option_map (λ ns. n ∷ ns) (measured f structure pairs))
+    (measured_argument f structure x)
 
 -- a length, where it is not refused for being missing or too large
 abbrev pub fitting_length : Option ℕ → Option ℕ
@@ -71,24 +72,32 @@ IsContent m class _ content = content ≡ []
 -- the contents of arguments of these parameters' kinds
 abbrev pub AreContents : Memory → List Param → List Arg → List (List ℕ) → Type 0
 AreContents m [] [] [] = Unit {0}
-AreContents m (p ∷ params) (a ∷ args) (content ∷ contents) = (has_place a ≡ is_marshalled p.class) × IsContent m p.class a content × AreContents m params args contents
+AreContents m (p ∷ params) (a ∷ args) (content ∷ contents) = (has_place a ≡ is_marshalled p.class)
+    × IsContent m p.class a content × AreContents m params args contents
 AreContents m _ _ _ = ⊥
 
 -- the buffers of these contents, from an address on
 abbrev pub buffers_with : ℕ → List Param → List (List ℕ) → List Buffer
 buffers_with next (p ∷ params) (content ∷ contents) =
     let more = buffers_with (next + length content) params contents in
-    if is_marshalled p.class then record { param = p; address = if length content == 0 then 0 else next; content = content } ∷ more else more
+    if is_marshalled p.class then record {
+      param = p;
+      address = if length content == 0 then 0 else next;
+      content =
+          content;
+    } ∷ more else more
 buffers_with next _ _ = []
 
 -- a structure once the addresses of these buffers are written too
 abbrev pub addressed : List ℕ → List Buffer → List ℕ
 addressed structure buffers = fold (λ s b. with_bytes_at s b.param.offset (low_bytes 8 b.address)) structure buffers
 
--- the bytes of a frame at this address: a structure with its numbers and the addresses of these buffers, and what the host is shown of them
+-- the bytes of a frame at this address: a structure with its numbers and the addresses of these buffers, and what the
+-- host is shown of them
 abbrev pub framed : ℕ → Function → List ℕ → List (List ℕ) → List ℕ
 framed at f structure contents =
-    addressed structure (buffers_with (at + f.frame_size) f.params contents) ++ flat_map shown_content (buffers_with (at + f.frame_size) f.params contents)
+    addressed structure (buffers_with (at + f.frame_size) f.params contents) ++ flat_map shown_content (buffers_with
+    (at + f.frame_size) f.params contents)
 
 -- what the host is shown of a content
 abbrev pub shown : Class → List ℕ → List ℕ

@@ -14,7 +14,8 @@ use Rattle.ocall_frames.specs.Contents.{content_of}
 abbrev pub IsStoreIn : ℕ → ℕ → Request → Type 0
 IsStoreIn address count q = (q.kind ≡ Swap) × ((x : ℕ) × IsInRange address count x × (q.index ≡ word_at x))
 
--- two arguments of which a frame shows the same: one number; or buffers as long, with the same bytes where they are copied in
+-- two arguments of which a frame shows the same: one number; or buffers as long, with the same bytes where they are
+-- copied in
 abbrev pub IsShownAlike : Function → List ℕ → Param → Argument → Argument → Type 0
 IsShownAlike f structure p (number m) (number n) = m ≡ n
 IsShownAlike f structure p (bytes b) (bytes c) =
@@ -24,5 +25,6 @@ IsShownAlike f structure p _ _ = ⊥
 
 abbrev pub AreShownAlike : Function → List ℕ → List Param → List Argument → List Argument → Type 0
 AreShownAlike f structure [] [] [] = Unit {0}
-AreShownAlike f structure (p ∷ params) (a ∷ arguments) (b ∷ others) = IsShownAlike f structure p a b × AreShownAlike f structure params arguments others
+AreShownAlike f structure (p ∷ params) (a ∷ arguments) (b ∷ others) = IsShownAlike f structure p a b
+    × AreShownAlike f structure params arguments others
 AreShownAlike f structure _ _ _ = ⊥

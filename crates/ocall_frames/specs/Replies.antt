@@ -20,11 +20,13 @@ use Rattle.ocall_frames.specs.Frames.{Reply, buffer_loads, return_value, read_re
 abbrev pub reply_with : Function → List (List ℕ) → ℕ → Interaction Reply
 reply_with f contents at =
     and_then (loads Enclave at (return_size f)) (λ returned.
-    map_value (λ loaded. record { value = return_value f returned; loaded = loaded }) (buffer_loads (buffers_with (at + f.frame_size) f.params contents)))
+    map_value (λ loaded. record { value = return_value f returned; loaded = loaded }) (buffer_loads (buffers_with
+    (at + f.frame_size) f.params contents)))
 
 -- the loads of a buffer of so many bytes, where it is copied back
 abbrev pub buffer_load : Class → ℕ → ℕ → Interaction (Option (List ℕ))
-buffer_load class at count = if is_out class && not (count == 0) then map_value (λ these. Some these) (loads Enclave at count) else ret None
+buffer_load class at count = if is_out class && not (count == 0) then map_value (λ these. Some these)
+    (loads Enclave at count) else ret None
 
 -- so many bytes of a live block, and of a string a unit at least
 abbrev pub IsPartOf : Memory → Class → Block → ℕ → Type 0
@@ -38,7 +40,8 @@ IsPartOfArgument m class _ count = count ≡ 0
 -- the block has what came back, as long as before, and all other blocks stay
 abbrev pub IsBackIn : Class → Block → Option (List ℕ) → Memory → Memory → Type 0
 IsBackIn class b these before after = (place : ℕ) (block : List ℕ) → IsBlock before b place block
-    → (length (block_after class these block) ≡ length block) × (after ≡ record before { blocks = slice_set before.blocks place (block_after class these block) })
+    → (length (block_after class these block) ≡ length block) × (after
+    ≡ record before { blocks = slice_set before.blocks place (block_after class these block) })
 
 -- the same of an argument's block; for a number and null all blocks stay
 abbrev pub IsBack : Class → Arg → Option (List ℕ) → Memory → Memory → Type 0
@@ -46,7 +49,8 @@ IsBack class (Bytes (Some b)) these before after = IsBackIn class b these before
 IsBack class _ these before after = after ≡ before
 
 -- the reply was loaded, and its bytes came back into the blocks that were handed over
-pub record IsReplied (f : Function) (passed : List Passed) (frame : ℕ) (old new : PortState) (before after : Memory) (value : ℕ) : Type 0 where
+pub record IsReplied (f : Function) (passed : List Passed) (frame : ℕ) (old new : PortState) (before after : Memory)
+    (value : ℕ) : Type 0 where
   pub reply : Reply
   pub makes : Makes (read_reply f (arguments_in before passed) frame) old new reply
   pub value_is : value ≡ reply.value

@@ -24,7 +24,8 @@ pub(crate) type Lengths = ArrayVec<u32, 64>;
 /// The size of the frame that an OCALL needs, or the first refusal of its arguments.
 pub fn check_args(function: &Function, args: &Args, arena: &Arena) -> Result<u32, Status>
     requires { MayCall function.now args.now.items arena.now }
-    ensures { (passed : List Passed) → ArePassed arena.now args.now.items passed → result ≡ checked_size function.now (arguments_in arena.now passed) }
+    ensures { (passed : List Passed) → ArePassed arena.now args.now.items passed
+        → result ≡ checked_size function.now (arguments_in arena.now passed) }
 {
     match lengths_of(function, args.as_slice(), arena) {
         Some(lengths) => Ok(function.frame_size + total(lengths.as_slice())),
@@ -50,7 +51,9 @@ fn total(lengths: &[u32]) -> u32
 pub(crate) fn lengths_of(function: &Function, args: &[Arg], arena: &Arena) -> Option<Lengths>
     requires call { MayCall function.now args.now arena.now }
     requires few { length args.now ≤ 64 }
-    ensures lengths { (arguments : List Argument) → AreArguments arena.now args.now arguments → option_map (λ l. l.items) result ≡ measured function.now (numbers_structure function.now arguments) (zip function.now.params arguments) }
+    ensures lengths { (arguments : List Argument) → AreArguments arena.now args.now arguments
+        → option_map (λ l. l.items) result ≡ measured function.now (numbers_structure function.now arguments) (zip
+        function.now.params arguments) }
     ensures bounded { IfSome result (λ l. All (λ n. n ≤ 65536) l.items) }
 {
     let mut structure = [0; STRUCTURE_LIMIT];
@@ -64,7 +67,8 @@ pub(crate) fn put_numbers(function: &Function, args: &[Arg], structure: &mut [u8
     requires fields { All (λ p. field_end false p ≤ function.now.frame_size) function.now.params }
     requires kinds { AreOfKinds function.now.params args.now }
     requires zeros { structure.old ≡ replicate function.now.frame_size 0 }
-    ensures { (arena : Memory) (arguments : List Argument) → AreArguments arena args.now arguments → structure.new ≡ numbers_structure function.now arguments }
+    ensures { (arena : Memory) (arguments : List Argument) → AreArguments arena args.now arguments
+        → structure.new ≡ numbers_structure function.now arguments }
 {
     let params = function.params.as_slice();
     for i in 0..args.len() {
@@ -75,7 +79,8 @@ pub(crate) fn put_numbers(function: &Function, args: &[Arg], structure: &mut [u8
 /// Writes an argument that is a number in its field.
 fn put_argument(param: &Param, arg: Arg, structure: &mut [u8])
     requires { param.now.offset + field_size param.now.class ≤ length structure.old }
-    ensures { (arena : Memory) (a : Argument) → IsArgument arena arg a → structure.new ≡ with_number param.now structure.old a }
+    ensures { (arena : Memory) (a : Argument) → IsArgument arena arg a
+        → structure.new ≡ with_number param.now structure.old a }
 {
     if let Arg::Value(number) = arg {
         put_number(
@@ -109,7 +114,8 @@ pub(crate) fn measure(
 ) -> Option<Lengths>
     requires call { MayCall function.now args.now arena.now }
     requires few { length args.now ≤ 64 }
-    ensures lengths { (arguments : List Argument) → AreArguments arena.now args.now arguments → option_map (λ l. l.items) result ≡ measured function.now structure.now (zip function.now.params arguments) }
+    ensures lengths { (arguments : List Argument) → AreArguments arena.now args.now arguments
+        → option_map (λ l. l.items) result ≡ measured function.now structure.now (zip function.now.params arguments) }
     ensures bounded { IfSome result (λ l. All (λ n. n ≤ 65536) l.items) }
 {
     let params = function.params.as_slice();
@@ -130,7 +136,8 @@ fn buffer_length(
 ) -> Option<u32>
     requires class { IsPassedClass param.now.class }
     requires live { IsLiveArgument arena.now arg }
-    ensures length { (a : Argument) → IsArgument arena.now arg a → result ≡ measured_argument function.now structure.now (param.now, a) }
+    ensures length { (a : Argument) → IsArgument arena.now arg a
+        → result ≡ measured_argument function.now structure.now (param.now, a) }
     ensures bounded { IfSome result (λ n. n ≤ 65536) }
 {
     match arg {
@@ -154,7 +161,8 @@ fn null_length(function: &Function, structure: &[u8], param: &Param) -> Option<u
     }
 }
 
-/// How many bytes of a block go into its buffer, or None where its length is missing, too large, or more than the block has.
+/// How many bytes of a block go into its buffer, or None where its length is missing, too large, or more than the block
+/// has.
 fn block_length(function: &Function, structure: &[u8], param: &Param, block: &[u8]) -> Option<u32>
     requires class { IsPassedClass param.now.class }
     requires small { length block.now ≤ 65536 }
@@ -168,7 +176,8 @@ fn block_length(function: &Function, structure: &[u8], param: &Param, block: &[u
     Some(length as u32)
 }
 
-/// How many bytes of a block are passed: a string up to its first unit 0 and with it. None where that is missing or too large.
+/// How many bytes of a block are passed: a string up to its first unit 0 and with it. None where that is missing or too
+/// large.
 fn part_length(function: &Function, structure: &[u8], param: &Param, block: &[u8]) -> Option<u64>
     requires { IsPassedClass param.now.class }
     ensures { result ≡ fitting_length (argument_length function.now structure.now param.now (bytes (Some block.now))) }

@@ -31,12 +31,16 @@ pub fn write_frame<P: WordPort>(
     frame: Frame,
 ) -> Result<(), RunFull>
     requires call { MayCall function.now args.now.items arena.now }
-    requires sized { (passed : List Passed) → ArePassed arena.now args.now.items passed → checked_size function.now (arguments_in arena.now passed) ≡ Ok frame.size }
+    requires sized { (passed : List Passed) → ArePassed arena.now args.now.items passed
+        → checked_size function.now (arguments_in arena.now passed) ≡ Ok frame.size }
     requires mapped { IsTrue (is_mapped (P.state port.old).host frame.at frame.size) }
     ensures ok { (passed : List Passed) → ArePassed arena.now args.now.items passed
-        → OnOk result (Makes (stores Enclave frame.at (frame_bytes function.now (arguments_in arena.now passed) frame.at)) (P.state port.old) (P.state port.new) tt) }
+        → OnOk result (Makes (stores Enclave frame.at (frame_bytes function.now (arguments_in arena.now passed)
+        frame.at)) (P.state port.old) (P.state port.new) tt) }
     ensures full { (passed : List Passed) → ArePassed arena.now args.now.items passed
-        → IfErr result (λ full. (full ≡ Steps) × StopsFull (stores Enclave frame.at (frame_bytes function.now (arguments_in arena.now passed) frame.at)) (P.state port.old) (P.state port.new)) }
+        → IfErr result (λ full. (full ≡ Steps)
+        × StopsFull (stores Enclave frame.at (frame_bytes function.now (arguments_in arena.now passed) frame.at))
+        (P.state port.old) (P.state port.new)) }
 {
     let args = args.as_slice();
     let mut structure = [0; STRUCTURE_LIMIT];
@@ -70,12 +74,18 @@ fn put_frame<P: WordPort>(
     requires size { length structure.old ≡ function.now.frame_size }
     requires params { length function.now.params ≡ length args.now }
     requires lengths { length lengths.now ≡ length args.now }
-    requires contents { (contents : List (List ℕ)) × AreContents arena.now function.now.params args.now contents × (lengths.now ≡ map length contents) }
+    requires contents { (contents : List (List ℕ)) × AreContents arena.now function.now.params args.now contents
+        × (lengths.now ≡ map length contents) }
     requires mapped { IsTrue (is_mapped (P.state port.old).host at (function.now.frame_size + sum lengths.now)) }
-    ensures ok { (contents : List (List ℕ)) → AreContents arena.now function.now.params args.now contents → lengths.now ≡ map length contents
-        → OnOk result (Makes (stores Enclave at (framed at function.now structure.old contents)) (P.state port.old) (P.state port.new) tt) }
-    ensures full { (contents : List (List ℕ)) → AreContents arena.now function.now.params args.now contents → lengths.now ≡ map length contents
-        → IfErr result (λ full. (full ≡ Steps) × StopsFull (stores Enclave at (framed at function.now structure.old contents)) (P.state port.old) (P.state port.new)) }
+    ensures ok { (contents : List (List ℕ)) → AreContents arena.now function.now.params args.now contents
+        → lengths.now ≡ map length contents
+        → OnOk result (Makes (stores Enclave at (framed at function.now structure.old contents)) (P.state port.old)
+        (P.state port.new) tt) }
+    ensures full { (contents : List (List ℕ)) → AreContents arena.now function.now.params args.now contents
+        → lengths.now ≡ map length contents
+        → IfErr result (λ full. (full ≡ Steps)
+        × StopsFull (stores Enclave at (framed at function.now structure.old contents))
+        (P.state port.old) (P.state port.new)) }
 {
     let _host = port.host();
     let buffers = at + u64::from(function.frame_size);
@@ -84,13 +94,15 @@ fn put_frame<P: WordPort>(
     put_buffers(port, function, args, lengths, buffers, arena)
 }
 
-/// Writes the address of each buffer in its field: they stand one after another, and one without bytes has the address 0.
+/// Writes the address of each buffer in its field: they stand one after another, and one without bytes has the address
+/// 0.
 fn put_addresses(function: &Function, lengths: &[u32], from: u64, structure: &mut [u8])
     requires fields { All (λ p. field_end false p ≤ function.now.frame_size) function.now.params }
     requires size { length structure.old ≡ function.now.frame_size }
     requires count { length lengths.now ≡ length function.now.params }
     requires fits { from + sum lengths.now < 2 ^ 64 }
-    ensures { (contents : List (List ℕ)) → lengths.now ≡ map length contents → structure.new ≡ addressed structure.old (buffers_with from function.now.params contents) }
+    ensures { (contents : List (List ℕ)) → lengths.now ≡ map length contents
+        → structure.new ≡ addressed structure.old (buffers_with from function.now.params contents) }
 {
     let params = function.params.as_slice();
     let mut next = from;
@@ -103,7 +115,8 @@ fn put_addresses(function: &Function, lengths: &[u32], from: u64, structure: &mu
 /// Writes the address of a buffer of so many bytes in a parameter's field, 0 where it has none.
 fn put_address(param: &Param, count: u32, address: u64, structure: &mut [u8])
     requires { field_end false param.now ≤ length structure.old }
-    ensures { structure.new ≡ (if is_marshalled_of param.now.class then with_bytes_at structure.old param.now.offset (low_bytes 8 (if count == 0 then 0 else address)) else structure.old) }
+    ensures { structure.new ≡ (if is_marshalled_of param.now.class then with_bytes_at structure.old param.now.offset
+        (low_bytes 8 (if count == 0 then 0 else address)) else structure.old) }
 {
     if param.class.is_marshalled() {
         let address = if count == 0 { 0 } else { address };
@@ -122,13 +135,19 @@ fn put_buffers<P: WordPort>(
 ) -> Result<(), RunFull>
     requires params { length function.now.params ≡ length args.now }
     requires lengths { length lengths.now ≡ length args.now }
-    requires contents { (contents : List (List ℕ)) × AreContents arena.now function.now.params args.now contents × (lengths.now ≡ map length contents) }
+    requires contents { (contents : List (List ℕ)) × AreContents arena.now function.now.params args.now contents
+        × (lengths.now ≡ map length contents) }
     requires mapped { IsTrue (is_mapped (P.state port.old).host from (sum lengths.now)) }
     requires fits { from + sum lengths.now < 2 ^ 64 }
-    ensures ok { (contents : List (List ℕ)) → AreContents arena.now function.now.params args.now contents → lengths.now ≡ map length contents
-        → OnOk result (Makes (stores Enclave from (flat_map shown_content (buffers_with from function.now.params contents))) (P.state port.old) (P.state port.new) tt) }
-    ensures full { (contents : List (List ℕ)) → AreContents arena.now function.now.params args.now contents → lengths.now ≡ map length contents
-        → IfErr result (λ full. (full ≡ Steps) × StopsFull (stores Enclave from (flat_map shown_content (buffers_with from function.now.params contents))) (P.state port.old) (P.state port.new)) }
+    ensures ok { (contents : List (List ℕ)) → AreContents arena.now function.now.params args.now contents
+        → lengths.now ≡ map length contents
+        → OnOk result (Makes (stores Enclave from (flat_map shown_content (buffers_with from function.now.params
+        contents))) (P.state port.old) (P.state port.new) tt) }
+    ensures full { (contents : List (List ℕ)) → AreContents arena.now function.now.params args.now contents
+        → lengths.now ≡ map length contents
+        → IfErr result (λ full. (full ≡ Steps)
+        × StopsFull (stores Enclave from (flat_map shown_content (buffers_with from function.now.params contents)))
+        (P.state port.old) (P.state port.new)) }
 {
     let params = function.params.as_slice();
     let mut next = from;
@@ -151,9 +170,11 @@ fn put_buffer<P: WordPort>(
     requires content { (content : List ℕ) × IsContent arena.now param.now.class arg content × (count ≡ length content) }
     requires mapped { IsTrue (is_mapped (P.state port.old).host at count) }
     ensures ok { (content : List ℕ) → IsContent arena.now param.now.class arg content → count ≡ length content
-        → OnOk result (Makes (stores Enclave at (shown param.now.class content)) (P.state port.old) (P.state port.new) tt) }
+        → OnOk result (Makes (stores Enclave at (shown param.now.class content)) (P.state port.old) (P.state port.new)
+        tt) }
     ensures full { (content : List ℕ) → IsContent arena.now param.now.class arg content → count ≡ length content
-        → IfErr result (λ full. (full ≡ Steps) × StopsFull (stores Enclave at (shown param.now.class content)) (P.state port.old) (P.state port.new)) }
+        → IfErr result (λ full. (full ≡ Steps)
+        × StopsFull (stores Enclave at (shown param.now.class content)) (P.state port.old) (P.state port.new)) }
 {
     if count == 0 {
         return Ok(());

@@ -12,13 +12,17 @@ ghost use Rattle.ocall_frames.specs.Stack.{frame_below};
 
 /// Every store of a frame lies in the frame, and a frame that fits lies between the base of the host stack and its top.
 pub fn frame_stores_law()
-    ensures stores { (f : Function) (arguments : List Argument) (frame : ℕ) → AllRequests (IsStoreIn frame (length (frame_bytes f arguments frame))) (stores Enclave frame (frame_bytes f arguments frame)) }
-    ensures region { (base top size frame : ℕ) → 0 < base → frame_below base top size ≡ Some frame → (base ≤ frame) × (frame + size ≤ top) }
+    ensures stores { (f : Function) (arguments : List Argument) (frame : ℕ)
+        → AllRequests (IsStoreIn frame (length (frame_bytes f arguments frame))) (stores Enclave frame (frame_bytes f
+        arguments frame)) }
+    ensures region { (base top size frame : ℕ) → 0 < base → frame_below base top size ≡ Some frame → (base ≤ frame)
+        × (frame + size ≤ top) }
 {}
 
 /// A frame depends on no byte but those that it shows: it is the same for arguments that have the same numbers, buffers
 /// as long, and the same bytes in those that are copied in.
 pub fn frame_secrecy_law()
-    ensures { (f : Function) (arguments others : List Argument) (frame : ℕ) → AreShownAlike f (numbers_structure f arguments) f.params arguments others
+    ensures { (f : Function) (arguments others : List Argument) (frame : ℕ)
+        → AreShownAlike f (numbers_structure f arguments) f.params arguments others
         → frame_bytes f arguments frame ≡ frame_bytes f others frame }
 {}

@@ -25,8 +25,8 @@ use enclave_memory::{Arena, Arg, Args, Block};
 use sgx_base::{HOST_START, extended, read_little_endian};
 use word_port::{RunFull, Side, WordPort};
 
-/// Loads the return and then each buffer that is copied back, from the addresses at which the frame was put, into the first
-/// bytes of its block. Gives the return, 0 where there is none.
+/// Loads the return and then each buffer that is copied back, from the addresses at which the frame was put, into the
+/// first bytes of its block. Gives the return, 0 where there is none.
 ///
 /// After a full log nothing is told of the arena.
 pub fn read_reply<P: WordPort>(
@@ -37,12 +37,16 @@ pub fn read_reply<P: WordPort>(
     frame: Frame,
 ) -> Result<u64, RunFull>
     requires call { MayCall function.now args.now.items arena.old }
-    requires sized { (passed : List Passed) → ArePassed arena.old args.now.items passed → checked_size function.now (arguments_in arena.old passed) ≡ Ok frame.size }
+    requires sized { (passed : List Passed) → ArePassed arena.old args.now.items passed
+        → checked_size function.now (arguments_in arena.old passed) ≡ Ok frame.size }
     requires mapped { IsTrue (is_mapped (P.state port.old).host frame.at frame.size) }
     ensures ok { (passed : List Passed) → ArePassed arena.old args.now.items passed
-        → IfOk result (λ value. IsReplied function.now passed frame.at (P.state port.old) (P.state port.new) arena.old arena.new value) }
+        → IfOk result (λ value. IsReplied function.now passed frame.at (P.state port.old) (P.state port.new) arena.old
+        arena.new value) }
     ensures full { (passed : List Passed) → ArePassed arena.old args.now.items passed
-        → IfErr result (λ full. (full ≡ Steps) × StopsFull (reply_read function.now (arguments_in arena.old passed) frame.at) (P.state port.old) (P.state port.new)) }
+        → IfErr result (λ full. (full ≡ Steps)
+        × StopsFull (reply_read function.now (arguments_in arena.old passed) frame.at)
+        (P.state port.old) (P.state port.new)) }
 {
     let args = args.as_slice();
     let Some(lengths) = lengths_of(function, args, arena) else {
@@ -64,12 +68,18 @@ fn load_reply<P: WordPort>(
     requires params { length function.now.params ≡ length args.now }
     requires lengths { length lengths.now ≡ length args.now }
     requires live { (passed : List Passed) × ArePassed arena.old args.now passed }
-    requires contents { (contents : List (List ℕ)) × AreContents arena.old function.now.params args.now contents × (lengths.now ≡ map length contents) }
+    requires contents { (contents : List (List ℕ)) × AreContents arena.old function.now.params args.now contents
+        × (lengths.now ≡ map length contents) }
     requires mapped { IsTrue (is_mapped (P.state port.old).host at (function.now.frame_size + sum lengths.now)) }
-    ensures ok { (passed : List Passed) (contents : List (List ℕ)) → ArePassed arena.old args.now passed → AreContents arena.old function.now.params args.now contents → lengths.now ≡ map length contents
-        → IfOk result (λ value. (reply : Reply) × Makes (reply_with function.now contents at) (P.state port.old) (P.state port.new) reply × (value ≡ reply.value) × IsArenaAfter (marshalled function.now) passed reply.loaded arena.old arena.new) }
-    ensures full { (passed : List Passed) (contents : List (List ℕ)) → ArePassed arena.old args.now passed → AreContents arena.old function.now.params args.now contents → lengths.now ≡ map length contents
-        → IfErr result (λ full. (full ≡ Steps) × StopsFull (reply_with function.now contents at) (P.state port.old) (P.state port.new)) }
+    ensures ok { (passed : List Passed) (contents : List (List ℕ)) → ArePassed arena.old args.now passed
+        → AreContents arena.old function.now.params args.now contents → lengths.now ≡ map length contents
+        → IfOk result (λ value. (reply : Reply)
+        × Makes (reply_with function.now contents at) (P.state port.old) (P.state port.new) reply
+        × (value ≡ reply.value) × IsArenaAfter (marshalled function.now) passed reply.loaded arena.old arena.new) }
+    ensures full { (passed : List Passed) (contents : List (List ℕ)) → ArePassed arena.old args.now passed
+        → AreContents arena.old function.now.params args.now contents → lengths.now ≡ map length contents
+        → IfErr result (λ full. (full ≡ Steps)
+        × StopsFull (reply_with function.now contents at) (P.state port.old) (P.state port.new)) }
 {
     let _host = port.host();
     let buffers = at + u64::from(function.frame_size);
@@ -82,8 +92,11 @@ fn load_reply<P: WordPort>(
 fn load_return<P: WordPort>(port: &mut P, function: &Function, at: u64) -> Result<u64, RunFull>
     requires size { return_size function.now ≤ 8 }
     requires mapped { IsTrue (is_mapped (P.state port.old).host at (return_size function.now)) }
-    ensures ok { IfOk result (λ value. (bytes : List ℕ) × Makes (loads Enclave at (return_size function.now)) (P.state port.old) (P.state port.new) bytes × (value ≡ return_value function.now bytes)) }
-    ensures full { IfErr result (λ full. (full ≡ Steps) × StopsFull (loads Enclave at (return_size function.now)) (P.state port.old) (P.state port.new)) }
+    ensures ok { IfOk result (λ value. (bytes : List ℕ)
+        × Makes (loads Enclave at (return_size function.now)) (P.state port.old) (P.state port.new) bytes
+        × (value ≡ return_value function.now bytes)) }
+    ensures full { IfErr result (λ full. (full ≡ Steps)
+        × StopsFull (loads Enclave at (return_size function.now)) (P.state port.old) (P.state port.new)) }
 {
     let mut bytes = [0; 8];
     let bytes = &mut bytes[..function.return_size() as usize];
@@ -121,7 +134,8 @@ fn value_of(plain: Plain, bytes: &[u8]) -> u64
 fn load_bytes<P: WordPort>(port: &mut P, at: u64, out: &mut [u8]) -> Result<(), RunFull>
     requires { IsTrue (is_mapped (P.state port.old).host at (length out.old)) }
     ensures ok { OnOk result (Makes (loads Enclave at (length out.old)) (P.state port.old) (P.state port.new) out.new) }
-    ensures full { IfErr result (λ full. (full ≡ Steps) × StopsFull (loads Enclave at (length out.old)) (P.state port.old) (P.state port.new)) }
+    ensures full { IfErr result (λ full. (full ≡ Steps)
+        × StopsFull (loads Enclave at (length out.old)) (P.state port.old) (P.state port.new)) }
 {
     for i in 0..out.len() {
         let byte = load_byte(port, at, i as u64)?;
@@ -134,8 +148,10 @@ fn load_bytes<P: WordPort>(port: &mut P, at: u64, out: &mut [u8]) -> Result<(), 
 fn load_byte<P: WordPort>(port: &mut P, at: u64, past: u64) -> Result<u8, RunFull>
     requires from { host_start ≤ at }
     requires upto { at + past < host_start + (P.state port.old).host }
-    ensures ok { IfOk result (λ byte. P.state port.new ≡ with_steps (P.state port.old) (step_of (load_of Enclave (word_at (at + past))) byte ∷ [])) }
-    ensures full { IfErr result (λ full. (full ≡ Steps) × IsFull (P.state port.new) × (P.state port.new ≡ P.state port.old)) }
+    ensures ok { IfOk result (λ byte. P.state port.new ≡ with_steps (P.state port.old) (step_of (load_of Enclave
+        (word_at (at + past))) byte ∷ [])) }
+    ensures full { IfErr result (λ full. (full ≡ Steps) × IsFull (P.state port.new)
+        × (P.state port.new ≡ P.state port.old)) }
 {
     if port.spare() == 0 {
         return Err(RunFull::Steps);
@@ -158,13 +174,20 @@ fn load_buffers<P: WordPort>(
     requires params { length function.now.params ≡ length args.now }
     requires lengths { length lengths.now ≡ length args.now }
     requires live { (passed : List Passed) × ArePassed arena.old args.now passed }
-    requires contents { (contents : List (List ℕ)) × AreContents arena.old function.now.params args.now contents × (lengths.now ≡ map length contents) }
+    requires contents { (contents : List (List ℕ)) × AreContents arena.old function.now.params args.now contents
+        × (lengths.now ≡ map length contents) }
     requires mapped { IsTrue (is_mapped (P.state port.old).host from (sum lengths.now)) }
     requires fits { from + sum lengths.now < 2 ^ 64 }
-    ensures ok { (passed : List Passed) (contents : List (List ℕ)) → ArePassed arena.old args.now passed → AreContents arena.old function.now.params args.now contents → lengths.now ≡ map length contents
-        → OnOk result ((loaded : List (Option (List ℕ))) × Makes (buffer_loads (buffers_with from function.now.params contents)) (P.state port.old) (P.state port.new) loaded × IsArenaAfter (marshalled function.now) passed loaded arena.old arena.new) }
-    ensures full { (passed : List Passed) (contents : List (List ℕ)) → ArePassed arena.old args.now passed → AreContents arena.old function.now.params args.now contents → lengths.now ≡ map length contents
-        → IfErr result (λ full. (full ≡ Steps) × StopsFull (buffer_loads (buffers_with from function.now.params contents)) (P.state port.old) (P.state port.new)) }
+    ensures ok { (passed : List Passed) (contents : List (List ℕ)) → ArePassed arena.old args.now passed
+        → AreContents arena.old function.now.params args.now contents → lengths.now ≡ map length contents
+        → OnOk result ((loaded : List (Option (List ℕ)))
+        × Makes (buffer_loads (buffers_with from function.now.params contents)) (P.state port.old) (P.state port.new)
+        loaded × IsArenaAfter (marshalled function.now) passed loaded arena.old arena.new) }
+    ensures full { (passed : List Passed) (contents : List (List ℕ)) → ArePassed arena.old args.now passed
+        → AreContents arena.old function.now.params args.now contents → lengths.now ≡ map length contents
+        → IfErr result (λ full. (full ≡ Steps)
+        × StopsFull (buffer_loads (buffers_with from function.now.params contents))
+        (P.state port.old) (P.state port.new)) }
 {
     let params = function.params.as_slice();
     let mut next = from;
@@ -187,8 +210,11 @@ fn load_buffer<P: WordPort>(
     requires class { IsPassedClass param.now.class }
     requires part { IsPartOfArgument arena.old param.now.class arg count }
     requires mapped { IsTrue (is_mapped (P.state port.old).host at count) }
-    ensures ok { OnOk result ((these : Option (List ℕ)) × Makes (buffer_load param.now.class at count) (P.state port.old) (P.state port.new) these × IsBack param.now.class arg these arena.old arena.new) }
-    ensures full { IfErr result (λ full. (full ≡ Steps) × StopsFull (buffer_load param.now.class at count) (P.state port.old) (P.state port.new)) }
+    ensures ok { OnOk result ((these : Option (List ℕ))
+        × Makes (buffer_load param.now.class at count) (P.state port.old) (P.state port.new) these
+        × IsBack param.now.class arg these arena.old arena.new) }
+    ensures full { IfErr result (λ full. (full ≡ Steps)
+        × StopsFull (buffer_load param.now.class at count) (P.state port.old) (P.state port.new)) }
 {
     match arg {
         Arg::Bytes(Some(block)) => load_block(port, &param.class, block, count, at, arena),
@@ -209,8 +235,11 @@ fn load_block<P: WordPort>(
     requires class { IsPassedClass class.now }
     requires part { IsPartOf arena.old class.now block count }
     requires mapped { IsTrue (is_mapped (P.state port.old).host at count) }
-    ensures ok { OnOk result ((these : Option (List ℕ)) × Makes (buffer_load class.now at count) (P.state port.old) (P.state port.new) these × IsBackIn class.now block these arena.old arena.new) }
-    ensures full { IfErr result (λ full. (full ≡ Steps) × StopsFull (buffer_load class.now at count) (P.state port.old) (P.state port.new)) }
+    ensures ok { OnOk result ((these : Option (List ℕ))
+        × Makes (buffer_load class.now at count) (P.state port.old) (P.state port.new) these
+        × IsBackIn class.now block these arena.old arena.new) }
+    ensures full { IfErr result (λ full. (full ≡ Steps)
+        × StopsFull (buffer_load class.now at count) (P.state port.old) (P.state port.new)) }
 {
     if count == 0 || !class.is_out() {
         return Ok(());
@@ -233,9 +262,12 @@ fn load_first<P: WordPort>(
     requires mapped { IsTrue (is_mapped (P.state port.old).host at count) }
     requires live { IsLive arena.old block }
     requires fits { count ≤ block.length }
-    ensures ok { OnOk result ((bytes : List ℕ) × Makes (loads Enclave at count) (P.state port.old) (P.state port.new) bytes × (length bytes ≡ count)
-        × ((place : ℕ) (first : List ℕ) → IsBlock arena.old block place first → arena.new ≡ record arena.old { blocks = slice_set arena.old.blocks place (with_bytes_at first 0 bytes) })) }
-    ensures full { IfErr result (λ full. (full ≡ Steps) × StopsFull (loads Enclave at count) (P.state port.old) (P.state port.new)) }
+    ensures ok { OnOk result ((bytes : List ℕ)
+        × Makes (loads Enclave at count) (P.state port.old) (P.state port.new) bytes × (length bytes ≡ count)
+        × ((place : ℕ) (first : List ℕ) → IsBlock arena.old block place first
+        → arena.new ≡ record arena.old { blocks = slice_set arena.old.blocks place (with_bytes_at first 0 bytes) })) }
+    ensures full { IfErr result (λ full. (full ≡ Steps)
+        × StopsFull (loads Enclave at count) (P.state port.old) (P.state port.new)) }
 {
     for i in 0..count {
         let byte = load_byte(port, at, u64::from(i))?;
@@ -250,7 +282,11 @@ fn end_text(arena: &mut Arena, block: Block, count: u32, unit: u32)
     requires fits { count ≤ block.length }
     requires within { unit ≤ count }
     requires few { unit ≤ 4 }
-    ensures { (place : ℕ) (first : List ℕ) → IsBlock arena.old block place first → arena.new ≡ record arena.old { blocks = slice_set arena.old.blocks place (with_bytes_at first (count - unit) (replicate unit 0)) } }
+    ensures { (place : ℕ) (first : List ℕ) → IsBlock arena.old block place first
+        → arena.new ≡ record arena.old {
+          blocks = slice_set arena.old.blocks place (with_bytes_at first (count - unit)
+              (replicate unit 0));
+        } }
 {
     let zeros = [0; 4];
     arena.write(block, count - unit, &zeros[..unit as usize]);
