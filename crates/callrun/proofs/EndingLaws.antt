@@ -1,5 +1,5 @@
 -- How a call ends, what it answers then, and where nothing fails.
-use Rattle.std.proofs.Common.{ℕ, ◌≡◌, ◌⊎◌, inl, inr, List, [], ◌∷◌, length, Option, Some, None, Result, Ok, Err, IfOk, IfSome, OnOk, OnErr, refl, sym, ◌∙◌, ap, subst, get_or, arith, ◌≤◌, ◌<◌}
+use Rattle.std.proofs.Common.{ℕ, ◌≡◌, inl, inr, List, [], ◌∷◌, length, Option, Some, Result, Ok, Err, IfOk, IfSome, OnOk, OnErr, refl, sym, ◌∙◌, ap, subst, get_or, arith, ◌≤◌, ◌<◌}
 use Rattle.sgx_base.specs.Outcome.{OrMemory}
 use Rattle.sgx_base.specs.Sinks.{SinkState, SinkFailed, Wrote, WrotePart}
 use Rattle.sgx_base.specs.Stores.{Store, FilesState}

@@ -145,12 +145,11 @@ fn status_after(status: u8, written: Result<(), SinkFault>) -> u8
     }
 }
 
-/// Runs a script on an EDL file, of which the words are the names, and writes the report, or why there is none, by one
-/// call.
+/// Runs a script on an EDL file, whose names the words are, and writes the report by one call, or why there is none.
 ///
 /// Gives the status: 0 where the run is done, 1 for other words, 2 for a fault of the EDL file and 3 for one of the
-/// script, 4 for a file that could not be read, 5 where the sink refuses, 6 where memory runs out, 7 for a file that is
-/// not there, and 8 for a thread that needs more than a limit.
+/// script, 4 for a file that could not be read and 7 for one that is not there, 5 where the sink refuses, 6 where
+/// memory runs out, and 8 for a thread that needs more than a limit.
 pub fn callrun<F: Files, O: Sink>(alloc: Global, words: &[Word], files: &mut F, out: &mut O) -> u8
     ensures answers { Answers words.now
         (F.state files.old) (F.state files.new) (O.state out.old) (O.state out.new) result }

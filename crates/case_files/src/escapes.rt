@@ -20,8 +20,7 @@ fn digit(byte: u8) -> Result<u8, Flaw>
     }
 }
 
-/// Writes what stands for an escape, of which the text is what follows its backslash, and gives the escape's length in
-/// that text.
+/// Writes what stands for the escape whose text follows a backslash, and gives the escape's length in that text.
 fn write_escape(out: &mut Vec<u8>, text: &[u8], number: u64) -> Result<usize, Flaw>
     ensures within { IfOk result (λ len. len ≤ length text.now) }
 {
