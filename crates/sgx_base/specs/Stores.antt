@@ -22,8 +22,8 @@ pub record IsWritten (name bytes : List ℕ) (before after : Store) : Type 0 whe
 abbrev pub max_file_size : ℕ
 max_file_size = 134217728
 
--- what files show of themselves: their contents, where they tell them, and the counts of reads that failed, of writes that
--- failed and of names that were missed
+-- what files show of themselves: their contents, where they tell them, and the counts of reads that failed, of writes
+-- that failed and of names that were missed
 pub record FilesState : Type 0 where
   pub contents : Option Store
   pub read_faults : ℕ
@@ -62,8 +62,8 @@ pub record AreOnlyRead (before after : FilesState) : Type 0 where
   pub read_faults : before.read_faults ≤ after.read_faults
   pub misses : before.misses ≤ after.misses
 
--- what the answer to a read of this name tells: its bytes, that no file has the name, that the read failed, or nothing, as
--- memory ran out
+-- what the answer to a read of this name tells: its bytes, that no file has the name, that the read failed, or nothing,
+-- as memory ran out
 abbrev pub IsReadOf : List ℕ → Result (Option (Vec ℕ)) FileFault → FilesState → FilesState → Type 0
 IsReadOf name (Ok (Some bytes)) before after = Holds before name (Some bytes.items) × (vec_len bytes ≤ max_file_size)
 IsReadOf name (Ok None) before after = Holds before name None × Missed before after
