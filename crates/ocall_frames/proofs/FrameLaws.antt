@@ -1,5 +1,5 @@
 -- Laws of the frames of OCALLs.
-use Rattle.std.proofs.Common.{ℕ, ◌+◌, ◌-◌, ◌*◌, ◌/◌, ◌<◌, ◌≤◌, ◌≡◌, ◌==◌, nat_lt, Bool, true, false, if◌then◌else◌, List, [], ◌∷◌, ◌++◌, length, zip, replicate, Some, None, refl, ap, ◌∙◌, arith}
+use Rattle.std.proofs.Common.{ℕ, ◌+◌, ◌-◌, ◌*◌, ◌/◌, ◌<◌, ◌≤◌, ◌≡◌, ◌==◌, ◌||◌, nat_lt, Bool, true, false, if◌then◌else◌, List, [], ◌∷◌, ◌++◌, length, zip, replicate, Some, None, refl, ap, ◌∙◌, arith}
 use Rattle.std.specs.Prelude.{flat_map}
 use Rattle.std.proofs.lemmas.Bool.{ltb-false}
 use Rattle.edl_interface.specs.declared.Function.{Function}
@@ -33,12 +33,20 @@ found_at : (c : Bool) (at frame : ℕ) → (if c then None else Some at) ≡ Som
 found_at true at frame e = cc
 found_at false at frame e = let same : at ≡ frame = cc in (refl, same)
 
-pub frame_region : (base top size frame : ℕ) → 0 < base → frame_below base top size ≡ Some frame → (base ≤ frame) × (frame + size ≤ top)
-frame_region base top size frame some e =
-    let r : (nat_lt ((top - size) / 16 * 16) base ≡ false) × ((top - size) / 16 * 16 ≡ frame) = found_at (nat_lt ((top - size) / 16 * 16) base) ((top - size) / 16 * 16) frame e in
-    let low : base ≤ (top - size) / 16 * 16 = ltb-false ((top - size) / 16 * 16) base r.0 in
+neither : (a b : Bool) → (a || b) ≡ false → (a ≡ false) × (b ≡ false)
+neither true b e = cc
+neither false b e = (refl, e)
+
+pub frame_region : (base top size frame : ℕ) → frame_below base top size ≡ Some frame → (base ≤ frame) × (frame + size ≤ top)
+frame_region base top size frame e =
+    let r : ((nat_lt top size || nat_lt ((top - size) / 16 * 16) base) ≡ false) × ((top - size) / 16 * 16 ≡ frame) =
+    found_at (nat_lt top size || nat_lt ((top - size) / 16 * 16) base) ((top - size) / 16 * 16) frame e in
+    let fits : (nat_lt top size ≡ false) × (nat_lt ((top - size) / 16 * 16) base ≡ false) =
+    neither (nat_lt top size) (nat_lt ((top - size) / 16 * 16) base) r.0 in
+    let enough : size ≤ top = ltb-false top size fits.0 in
+    let low : base ≤ (top - size) / 16 * 16 = ltb-false ((top - size) / 16 * 16) base fits.1 in
     let base_within : base ≤ frame = omega (arith, low, r.1) in
-    let within : frame + size ≤ top = omega (arith, low, r.1, some) in
+    let within : frame + size ≤ top = omega (arith, r.1, enough) in
     (base_within, within)
 
 -- the numbers of alike arguments make one structure
