@@ -172,7 +172,7 @@ module _ (m : Machine) (fit : IsBoundedMachine m) (Among : ℕ → Type 0) (slot
         → Visits (call_in_frame m ecalls cx ordinal f bytes frame)
     in_frame ordinal f bytes frame found whole fits =
         let place : (cx.base ≤ frame) × (frame + f.frame_size ≤ cx.top) =
-        frame_fits cx.base cx.top f.frame_size frame fits on.0 in
+        frame_fits cx.base cx.top f.frame_size frame fits in
         let first : AreFirst limit frame f.frame_size =
         stack_first m.script.settings.host limit cx.base cx.top frame f.frame_size host_first on.0
         place.0 place.1 on.1 in

@@ -74,7 +74,7 @@ frame_small : (b : Bool) (base top size : ℕ) (o : Option ℕ) → frame_below 
 frame_small false base top size o e from upto = omega arith
 frame_small true base top size None e from upto = omega arith
 frame_small true base top size (Some a) e from upto =
-    let fits : (base ≤ a) × (a + size ≤ top) = frame_fits base top size a e from in
+    let fits : (base ≤ a) × (a + size ≤ top) = frame_fits base top size a e in
     let end : a + size ≤ top = fits.1 in
     omega (arith, end, upto)
 
