@@ -63,7 +63,8 @@ impl<R: rt::Files> Files for DiskFiles<R> {
     fn read(&mut self, alloc: Global, name: &str) -> Result<Option<Vec<u8>>, FileFault> {
         let file = match fs::open(&self.rt, name) {
             Ok(file) => file,
-            Err(e) if e.kind() == ErrorKind::NotFound => {
+            // a path through a plain file leads to no file
+            Err(e) if matches!(e.kind(), ErrorKind::NotFound | ErrorKind::NotADirectory) => {
                 self.misses = self.misses.saturating_add(1);
                 return Ok(None);
             }
