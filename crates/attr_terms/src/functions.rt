@@ -91,7 +91,8 @@ pub struct Functions<'a> {
     ordinals: Places<'a>,
     ghost trusted_side: { map function_in trusted.items ≡ trusted_of meanings.gathered.now },
     ghost untrusted_side: { map function_in untrusted.items ≡ untrusted_of meanings.gathered.now },
-    ghost by_name: { (q : List ℕ) → told ordinals.first q ≡ place_in q (map (λ f. f.decl.name) (trusted_of meanings.gathered.now)) },
+    ghost by_name: { (q : List ℕ)
+        → told ordinals.first q ≡ place_in q (map (λ f. f.decl.name) (trusted_of meanings.gathered.now)) },
 }
 
 impl<'a> Functions<'a> {

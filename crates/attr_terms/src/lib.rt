@@ -1,5 +1,5 @@
-//! The terms in which the attribute rules and the interface are said: attributes, meanings of types, places of names, functions
-//! and sizes.
+//! The terms in which the attribute rules and the interface are said: attributes, meanings of types, places of names,
+//! functions and sizes.
 #![tactic(auto)]
 
 pub mod attributes;

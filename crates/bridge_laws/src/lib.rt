@@ -33,8 +33,8 @@ pub fn bare_proxy_law()
         ≡ ocall_or_refusal m handlers cx ordinal arguments (Some f) }
 {}
 
-/// With a frame, the list of an OCALL's proxy does what an OCALL of its function is defined to do: for as many arguments
-/// as parameters, where the fields of the structure lie apart.
+/// With a frame, the list of an OCALL's proxy does what an OCALL of its function is defined to do: for as many
+/// arguments as parameters, where the fields of the structure lie apart.
 pub fn proxy_list_law()
     ensures { (m : Machine) (handlers : Handlers) (cx : Context)
         (ordinal : ℕ) (arguments : List Argument) (f : Function)

@@ -1,5 +1,5 @@
-//! The call stack of a participant, the tables of an interface's functions, the rows that refuse an entry before its frame
-//! is looked at, and the instructions of bridges.
+//! The call stack of a participant, the tables of an interface's functions, the rows that refuse an entry before its
+//! frame is looked at, and the instructions of bridges.
 #![tactic(auto)]
 
 mod bridges;

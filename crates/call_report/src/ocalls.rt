@@ -12,7 +12,8 @@ use edl_interface::{Function, Param};
 use std::alloc::{AllocError, Global};
 use word_port::Step;
 
-/// The length of a parameter's buffer in a frame whose bytes from there on are these, or None where it has more than 64 bits.
+/// The length of a parameter's buffer in a frame whose bytes from there on are these, or None where it has more than
+/// 64 bits.
 fn buffer_length(
     function: &Function,
     structure: &[u8],
@@ -25,7 +26,7 @@ fn buffer_length(
     if param.address(structure) == 0 {
         Some(0)
     } else if param.class.is_text() {
-        let length = terminated_length(param.class.unit(), buffers).unwrap_or(buffers.len());
+        let length = terminated_length(buffers, param.class.unit()).unwrap_or(buffers.len());
         Some(length as u64)
     } else {
         function.length(structure, param)

@@ -7,7 +7,7 @@ use edl_interface::Class;
 use std::alloc::AllocError;
 
 /// The length up to the first unit 0 and with it, where there is one. There is none of a unit without bytes.
-pub(crate) fn terminated_length(unit: u32, bytes: &[u8]) -> Option<usize>
+pub(crate) fn terminated_length(bytes: &[u8], unit: u32) -> Option<usize>
     ensures length { result ≡ terminated_length_of unit bytes.now }
     ensures within { IfSome result (λ n. n ≤ length bytes.now) }
 {
@@ -37,7 +37,7 @@ pub(crate) fn put_length(class: &Class, bytes: &[u8]) -> usize
     ensures within { result ≤ length bytes.now }
 {
     if class.is_text() {
-        terminated_length(class.unit(), bytes).unwrap_or(bytes.len())
+        terminated_length(bytes, class.unit()).unwrap_or(bytes.len())
     } else {
         bytes.len()
     }

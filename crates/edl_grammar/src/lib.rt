@@ -218,7 +218,8 @@ pub struct Tail {
 
 /// What is computed is what the grammar says: the tree of a sentence, or the first fault.
 pub fn agreement()
-    ensures { (number : ℕ) (bytes : List ℕ) (tokens : List Token) → Parses number bytes tokens (parsing number bytes tokens) }
+    ensures { (number : ℕ) (bytes : List ℕ) (tokens : List Token)
+        → Parses number bytes tokens (parsing number bytes tokens) }
 {}
 
 /// A sentence has one tree.

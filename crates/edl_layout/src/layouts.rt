@@ -32,7 +32,12 @@ impl Model for Layouts {
 
     ghost coded = { coded_list coded_shape };
 
-    ghost view = { λ l. map (λ e. record { name = e.0.items; size = e.1.extent.size; align = e.1.extent.align; offsets = e.1.offsets }) l.layouts.entries };
+    ghost view = { λ l. map (λ e. record {
+      name = e.0.items;
+      size = e.1.extent.size;
+      align = e.1.extent.align;
+      offsets = e.1.offsets;
+    }) l.layouts.entries };
 }
 
 impl Layouts {

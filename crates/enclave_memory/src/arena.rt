@@ -199,7 +199,7 @@ fn push_length(lengths: &mut Vec<u32>, added: u32)
     ensures items { lengths.new.items ≡ lengths.old.items ++ added ∷ [] }
     ensures capacity { vec_capacity lengths.old ≤ vec_capacity lengths.new }
 {
-    let _ = lengths.push(added);
+    lengths.push_reserved(added);
 }
 
 /// The bytes from a place on, so many.

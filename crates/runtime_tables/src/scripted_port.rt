@@ -50,7 +50,14 @@ impl ScriptedPort {
 
     fn take_step(&mut self, side: Side, kind: Kind, index: u32, first: u64, second: u64) -> u64
         requires room { HasRoom self.old }
-        ensures step { self.new ≡ with_steps self.old (record { side = side; kind = kind; index = index; first = first; second = second; answer = result } ∷ []) }
+        ensures step { self.new ≡ with_steps self.old (record {
+          side = side;
+          kind = kind;
+          index = index;
+          first = first;
+          second = second;
+          answer = result;
+        } ∷ []) }
         ensures no_bytes { self.old.host ≡ 0 }
     {
         let made = self.log.len() as u32;

@@ -108,9 +108,10 @@ struct Draft {
 
 /// The script that these bytes are, for an interface.
 ///
-/// Before all else it may set `host`, `arena` and `stack`, each once; a stack must fit host memory as it stands at that line. It writes
-/// host bytes and races, gives each function a body or none, which returns the sum of the bytes of a block, and calls functions. A fault is
-/// of the first line that is not so; a body that no later line closes is one at its opening line.
+/// Before all else it may set `host`, `arena` and `stack`, each once; a stack must fit host memory as it stands at that
+/// line. It writes host bytes and races, gives each function a body or none, which returns the sum of the bytes of a
+/// block, and calls functions. A fault is of the first line that is not so; a body that no later line closes is one at
+/// its opening line.
 pub fn read_script(
     alloc: Global,
     bytes: &[u8],

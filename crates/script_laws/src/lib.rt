@@ -10,5 +10,6 @@ ghost use Rattle.call_script.specs.Sound.{IsSoundScript};
 /// A script without faults is sound: its settings and words are in range, its stacks fit, its races are in order, and
 /// each action and act names what there is and stays within the limits.
 pub fn sound_law()
-    ensures { (i : Interface) (racing : Bool) (bytes : List ℕ) (s : Script) → script_of i racing bytes ≡ Ok s → IsSoundScript i racing s }
+    ensures { (i : Interface) (racing : Bool) (bytes : List ℕ) (s : Script)
+        → script_of i racing bytes ≡ Ok s → IsSoundScript i racing s }
 {}

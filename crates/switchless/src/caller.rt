@@ -185,10 +185,11 @@ fn await_answer<P: WordPort>(
     withdraw_or_wait(port, task, waits)
 }
 
-/// Calls by a slot of the pool: the status that a worker gave, or a fallback where no slot is free, or no worker took the call
-/// before it was withdrawn.
+/// Calls by a slot of the pool: the status that a worker gave, or a fallback where no slot is free, or no worker took
+/// the call before it was withdrawn.
 ///
-/// Each waiting look takes 1 from `waits`. Where one is needed and none is left the error is `Waited`, also where the log is full.
+/// Each waiting look takes 1 from `waits`. Where one is needed and none is left the error is `Waited`, also where the
+/// log is full.
 pub fn call_switchless<P: WordPort>(
     port: &mut P,
     pool: &Pool,

@@ -3,8 +3,8 @@
 ghost use Rattle.std.specs.Prelude.{ℕ, ◌≡◌, ◌<◌, ◌≤◌, ◌^◌, IsTrue};
 ghost use Rattle.switchless.specs.Slots.{slot_word, offered_word, place_of_frame, tag_in, ordinal_in, place_in, frame_in, status_in, is_offered, IsFrameUpTo, last_frame};
 
-/// The parts of a word come back from it, and every word is that of its parts. It is below 2^35 exactly where its status is 0,
-/// as it is where the word is free, offered or accepted.
+/// The parts of a word come back from it, and every word is that of its parts. It is below 2^35 exactly where its status
+/// is 0, as it is where the word is free, offered or accepted.
 pub fn slot_word_law()
     ensures tag { (tag ordinal place status : ℕ) → tag < 4 → tag_in (slot_word tag ordinal place status) ≡ tag }
     ensures ordinal { (tag ordinal place status : ℕ) → tag < 4 → ordinal < 2 ^ 16 →

@@ -18,8 +18,8 @@ ghost use Rattle.switchless_laws.specs.Roles.{IsCallerLog, IsWorkerLog, IsPartic
 
 /// Where the slots of a pool are free at first, and each participant plays roles of callers and workers, one after
 /// another, and makes no other step on a slot: at each moment of a legal history each ordinal, frame and status was
-/// served as often as it was taken, and once more for each slot that holds it as done. Once each caller's role has ended,
-/// every slot is free, and what was taken is what was served.
+/// served as often as it was taken, and once more for each slot that holds it as done. Once each caller's role has
+/// ended, every slot is free, and what was taken is what was served.
 pub fn taken_is_served_law<R>()
     ensures moments { (pool : Pool) (words : List ℕ) (participants : List (List Step)) (before after : List Step) →
         All (IsParticipant R pool) participants → IsHistory pool words participants (before ++ after) →
@@ -31,9 +31,9 @@ pub fn taken_is_served_law<R>()
         All (HasLeft R pool) participants → IsHistory pool words participants whole → Agree pool participants }
 {}
 
-/// The same of participants of which is known alone that they keep to the rules of each slot, whatever else they do. At each
-/// moment each slot is free, and nobody has to do with it; or a word is offered there, and one caller holds it; or it is
-/// accepted, and one worker serves it too; or it is done, and the caller holds it still.
+/// The same of participants of which is known alone that they keep to the rules of each slot, whatever else they do. At
+/// each moment each slot is free, and nobody has to do with it; or a word is offered there, and one caller holds it; or
+/// it is accepted, and one worker serves it too; or it is done, and the caller holds it still.
 pub fn slots_law()
     ensures settled { (pool : Pool) (words : List ℕ) (participants : List (List Step)) (before after : List Step) →
         All (KeepsSlots pool) participants → IsHistory pool words participants (before ++ after) →
@@ -48,8 +48,9 @@ pub fn slots_law()
         All (LeavesSlots pool) participants → IsHistory pool words participants whole → Agree pool participants }
 {}
 
-/// A caller's role ends with nothing of its own in a slot: what it offered it took back or collected. A worker that has accepted a
-/// word makes no other step on its slot but to leave that word done; wherever its role is cut, no word of its own is offered.
+/// A caller's role ends with nothing of its own in a slot: what it offered it took back or collected. A worker that has
+/// accepted a word makes no other step on its slot but to leave that word done; wherever its role is cut, no word of its
+/// own is offered.
 pub fn roles_law<R>()
     ensures caller { (pool : Pool) (log : List Step) (end : Option ℕ) (slot : ℕ) → IsSlotOf pool slot →
         IsCallerLog log (ret end) → KeepsSlot slot log idle }
@@ -67,8 +68,8 @@ pub fn one_server_law()
         Contains between (offering slot second) }
 {}
 
-/// A collected status was written by a worker that served that very word: what a caller collects was left in the slot before, and
-/// whoever leaves a word there that is done has just accepted it, and gives its own status with it.
+/// A collected status was written by a worker that served that very word: what a caller collects was left in the slot
+/// before, and whoever leaves a word there that is done has just accepted it, and gives its own status with it.
 pub fn collected_law()
     ensures left { (pool : Pool) (words : List ℕ) (participants : List (List Step)) (before after : List Step) →
         (slot word : ℕ) → All (KeepsSlots pool) participants →
@@ -107,8 +108,8 @@ pub fn example_law()
     ensures taken { taken_in one_slot calling_and_working ≡ the_call ∷ [] }
 {}
 
-/// Where a worker leaves one accepted word done twice, or a caller collects before its word is done, the counts differ: more was
-/// served than was taken, or what was taken nobody served.
+/// Where a worker leaves one accepted word done twice, or a caller collects before its word is done, the counts differ:
+/// more was served than was taken, or what was taken nobody served.
 pub fn broken_roles_law()
     ensures twice { IsLegal (0 ∷ 1 ∷ []) (history_of serving_twice) }
     ensures served_twice { served_in one_slot serving_twice ≡ the_call ∷ the_call ∷ [] }

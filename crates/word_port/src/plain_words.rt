@@ -203,7 +203,8 @@ fn come_to(words: &mut [u64], races: &[Race], turn: &mut Turn, access: bool)
     }
 }
 
-/// Makes the races of the access after so many accesses, of which the first has the place `made`, and gives the place after them.
+/// Makes the races of the access after so many accesses, of which the first has the place `made`, and gives the place
+/// after them.
 fn make_races(words: &mut [u64], races: &[Race], mut made: usize, accesses: u32) -> usize
     requires fits { accesses + 1 < 2 ^ 32 }
     requires order { AreInOrder races.now }
