@@ -6,3 +6,4 @@ pub mod PutLaws
 pub mod ReplyLaws
 pub mod StructureLaws
 pub mod WholeLaws
+pub mod BackLaws

@@ -7,11 +7,10 @@ use Rattle.edl_interface.specs.declared.Class.{Class}
 use Rattle.edl_interface.specs.declared.Class.TheVariants.{Plain as by_value, UserCheck, Buffer as buffer_class, Text, Fixed, Foreign}
 use Rattle.edl_interface.specs.declared.Param.{Param}
 use Rattle.edl_interface.specs.Parameters.{is_marshalled, is_out, unit_of}
-use Rattle.enclave_memory.specs.declared.Block.{Block}
 use Rattle.enclave_memory.specs.declared.Arg.{Arg}
 use Rattle.enclave_memory.specs.declared.Arg.TheVariants.{Value, Bytes}
 use Rattle.enclave_memory.specs.Arguments.{Passed, by_number, by_place, IsPassed, ArePassed, places_in, blocks_of}
-use Rattle.enclave_memory.specs.Memory.{Memory, taken_by, IsBlock}
+use Rattle.enclave_memory.specs.Memory.{Memory, taken_by}
 use Rattle.enclave_memory.proofs.Blocks.{taken_by-cons}
 use Rattle.word_port.specs.declared.Side.TheVariants.{Enclave}
 use Rattle.word_port.specs.Port.{PortState}
@@ -22,7 +21,7 @@ use Rattle.word_port.proofs.Laws.{and_then-assoc, and_then-ret, leads_on, leads_
 use Rattle.ocall_frames.specs.Arguments.{has_place}
 use Rattle.ocall_frames.specs.Contents.{IsContent, AreContents, buffers_with}
 use Rattle.ocall_frames.specs.Frames.{Buffer, buffer_loads, block_after, blocks_after, IsArenaAfter}
-use Rattle.ocall_frames.specs.Replies.{buffer_load, IsPartOfArgument, IsBack}
+use Rattle.ocall_frames.specs.Replies.{buffer_load, IsPartOfArgument, IsBack, KeepsBlocks}
 use Rattle.ocall_frames.proofs.ContentLaws.{IsNextContent}
 use Rattle.ocall_frames.proofs.PutLaws.{content_next, arg_next}
 use Rattle.ocall_frames.proofs.StructureLaws.{drop_at}
@@ -30,11 +29,6 @@ use std.Path.{fun_ext}
 
 abbrev pub marshalled_in : List Param → List Param
 marshalled_in params = filter (λ p. is_marshalled p.class) params
-
--- each block is where it was, and as long as it was
-pub record KeepsBlocks (before now : Memory) : Type 0 where
-  pub size : now.size ≡ before.size
-  pub blocks : (b : Block) (place : ℕ) (block : List ℕ) → IsBlock before b place block → (cur : List ℕ) × IsBlock now b place cur × (length cur ≡ length block)
 
 pub keeps_none : (m : Memory) → KeepsBlocks m m
 keeps_none m = record { size = refl; blocks = λ b place block is. (block, is, refl) }

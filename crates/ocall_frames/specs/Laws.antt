@@ -1,9 +1,9 @@
 -- What a frame may show: its stores, and the bytes that it depends on.
-use Rattle.std.specs.Prelude.{◌≡◌, ℕ, true, List, [], ◌∷◌, length}
+use Rattle.std.specs.Prelude.{◌≡◌, ◌≢◌, ℕ, true, List, [], ◌∷◌, length, Option, Some}
 use Rattle.sgx_base.specs.Ranges.{IsInRange}
 use Rattle.edl_interface.specs.declared.Function.{Function}
 use Rattle.edl_interface.specs.declared.Param.{Param}
-use Rattle.edl_interface.specs.Parameters.{is_in}
+use Rattle.edl_interface.specs.Parameters.{is_in, is_out}
 use Rattle.word_port.specs.declared.Kind.TheVariants.{Swap}
 use Rattle.word_port.specs.Requests.{Request}
 use Rattle.word_port.specs.Accesses.{word_at}
@@ -28,3 +28,8 @@ AreShownAlike f structure [] [] [] = Unit {0}
 AreShownAlike f structure (p ∷ params) (a ∷ arguments) (b ∷ others) = IsShownAlike f structure p a b
     × AreShownAlike f structure params arguments others
 AreShownAlike f structure _ _ _ = ⊥
+
+-- the block of this number is handed over for none of these marshalled parameters that is copied back
+abbrev pub IsNotCopiedBack : ℕ → List Param → List (Option ℕ) → Type 0
+IsNotCopiedBack n (p ∷ params) (place ∷ places) = (is_out p.class ≡ true → place ≢ Some n) × IsNotCopiedBack n params places
+IsNotCopiedBack n _ _ = Unit {0}

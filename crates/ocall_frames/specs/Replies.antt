@@ -55,3 +55,9 @@ pub record IsReplied (f : Function) (passed : List Passed) (frame : ℕ) (old ne
   pub makes : Makes (read_reply f (arguments_in before passed) frame) old new reply
   pub value_is : value ≡ reply.value
   pub arena_is : IsArenaAfter (marshalled f) passed reply.loaded before after
+
+-- each block is where it was, and as long as it was
+pub record KeepsBlocks (before now : Memory) : Type 0 where
+  pub size : now.size ≡ before.size
+  pub blocks : (b : Block) (place : ℕ) (block : List ℕ) → IsBlock before b place block
+      → (cur : List ℕ) × IsBlock now b place cur × (length cur ≡ length block)

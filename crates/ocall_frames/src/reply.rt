@@ -16,7 +16,7 @@ ghost use Rattle.word_port.specs.declared.RunFull.TheVariants.{Steps};
 ghost use Rattle.ocall_frames.specs.Arguments.{MayCall, checked_size};
 ghost use Rattle.ocall_frames.specs.Contents.{AreContents, buffers_with};
 ghost use Rattle.ocall_frames.specs.Frames.{Reply, buffer_loads, read_reply as reply_read, return_value, IsArenaAfter};
-ghost use Rattle.ocall_frames.specs.Replies.{reply_with, buffer_load, IsPartOf, IsPartOfArgument, IsBackIn, IsBack, IsReplied};
+ghost use Rattle.ocall_frames.specs.Replies.{reply_with, buffer_load, IsPartOf, IsPartOfArgument, IsBackIn, IsBack, IsReplied, KeepsBlocks};
 
 use crate::Frame;
 use crate::arguments::lengths_of;
@@ -26,7 +26,7 @@ use sgx_base::{HOST_START, extended, read_little_endian};
 use word_port::{RunFull, Side, WordPort};
 
 /// Loads the return and then each buffer that is copied back, from the addresses at which the frame was put, into the
-/// first bytes of its block. Gives the return, 0 where there is none.
+/// first bytes of its block. Gives the return, 0 where there is none. Each block keeps its place and its length.
 ///
 /// After a full log nothing is told of the arena.
 pub fn read_reply<P: WordPort>(
@@ -43,6 +43,7 @@ pub fn read_reply<P: WordPort>(
     ensures ok { (passed : List Passed) → ArePassed arena.old args.now.items passed
         → IfOk result (λ value. IsReplied function.now passed frame.at (P.state port.old) (P.state port.new) arena.old
         arena.new value) }
+    ensures kept { OnOk result (KeepsBlocks arena.old arena.new) }
     ensures full { (passed : List Passed) → ArePassed arena.old args.now.items passed
         → IfErr result (λ full. (full ≡ Steps)
         × StopsFull (reply_read function.now (arguments_in arena.old passed) frame.at)
@@ -76,6 +77,7 @@ fn load_reply<P: WordPort>(
         → IfOk result (λ value. (reply : Reply)
         × Makes (reply_with function.now contents at) (P.state port.old) (P.state port.new) reply
         × (value ≡ reply.value) × IsArenaAfter (marshalled function.now) passed reply.loaded arena.old arena.new) }
+    ensures kept { OnOk result (KeepsBlocks arena.old arena.new) }
     ensures full { (passed : List Passed) (contents : List (List ℕ)) → ArePassed arena.old args.now passed
         → AreContents arena.old function.now.params args.now contents → lengths.now ≡ map length contents
         → IfErr result (λ full. (full ≡ Steps)
@@ -183,6 +185,7 @@ fn load_buffers<P: WordPort>(
         → OnOk result ((loaded : List (Option (List ℕ)))
         × Makes (buffer_loads (buffers_with from function.now.params contents)) (P.state port.old) (P.state port.new)
         loaded × IsArenaAfter (marshalled function.now) passed loaded arena.old arena.new) }
+    ensures kept { OnOk result (KeepsBlocks arena.old arena.new) }
     ensures full { (passed : List Passed) (contents : List (List ℕ)) → ArePassed arena.old args.now passed
         → AreContents arena.old function.now.params args.now contents → lengths.now ≡ map length contents
         → IfErr result (λ full. (full ≡ Steps)

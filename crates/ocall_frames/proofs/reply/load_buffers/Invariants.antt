@@ -1,7 +1,8 @@
 use Rattle.std.proofs.Common.{ℕ, ◌≡◌, ◌+◌, ◌≤◌, List, length, map, drop, sum}
 use Rattle.enclave_memory.specs.Arguments.{Passed, ArePassed}
 use Rattle.ocall_frames.specs.Contents.{AreContents}
-use Rattle.ocall_frames.proofs.ReplyLaws.{KeepsBlocks, IsReading}
+use Rattle.ocall_frames.specs.Replies.{KeepsBlocks}
+use Rattle.ocall_frames.proofs.ReplyLaws.{IsReading}
 use Rattle.ocall_frames.proofs.reply.load_buffers.Given as goal
 
 -- what came back so far, and the buffers that are still to come
