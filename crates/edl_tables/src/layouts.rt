@@ -41,106 +41,121 @@ fn check_layout(
     assert_eq!(rt; table.offset(name, member), None);
 }
 
+/// Texts with the size, the alignment and the offsets of their type `s`.
+const LAYOUTS: [(&[u8], u32, u32, &[u32]); 14] = [
+    (
+        b"enclave { struct s { char a; int b; short c; }; };",
+        12,
+        4,
+        &[0, 4, 8],
+    ),
+    (
+        b"enclave { union s { char c[5]; long l; }; };",
+        8,
+        8,
+        &[0, 0],
+    ),
+    (
+        b"enclave { struct s { char a; double d; }; };",
+        16,
+        8,
+        &[0, 8],
+    ),
+    (
+        b"enclave { struct s { char a; struct t b[2]; enum e c; uint16_t *p; }; struct t { short x; char y; }; enum e { A }; };",
+        24,
+        8,
+        &[0, 2, 12, 16],
+    ),
+    (b"enclave { struct s { }; };", 0, 1, &[]),
+    (
+        b"enclave { struct s { char a[3]; short b; char c; }; };",
+        8,
+        2,
+        &[0, 4, 6],
+    ),
+    (
+        b"enclave { union s { char a[9]; int b; }; };",
+        12,
+        4,
+        &[0, 0],
+    ),
+    (
+        b"enclave { struct r { char a; int b; short c; }; struct s { r x; long long y; char z; }; };",
+        32,
+        8,
+        &[0, 16, 24],
+    ),
+    (
+        b"enclave { struct s { char a; wchar_t b; size_t c; int8_t d; uint64_t e; float f; }; };",
+        40,
+        8,
+        &[0, 4, 8, 16, 24, 32],
+    ),
+    (
+        b"enclave { struct s { int a[2][3]; char b; }; };",
+        28,
+        4,
+        &[0, 24],
+    ),
+    (
+        b"enclave { struct s { char a; union u b; short c; }; union u { char c[5]; long l; }; };",
+        24,
+        8,
+        &[0, 8, 16],
+    ),
+    (
+        b"enclave { struct s { char a; long b[0]; int c; }; };",
+        16,
+        8,
+        &[0, 8, 8],
+    ),
+    (b"enclave { enum s { A, B }; };", 4, 4, &[]),
+    (
+        b"enclave { struct s { char a; far b; char c; }; };",
+        64,
+        16,
+        &[0, 16, 56],
+    ),
+];
+
 #[test]
 fn layouts_are_those_of_c(rt: HostRuntime) -> Result<(), Fail> {
-    let rows: [(&[u8], u32, u32, &[u32]); 14] = [
-        (
-            b"enclave { struct s { char a; int b; short c; }; };",
-            12,
-            4,
-            &[0, 4, 8],
-        ),
-        (
-            b"enclave { union s { char c[5]; long l; }; };",
-            8,
-            8,
-            &[0, 0],
-        ),
-        (
-            b"enclave { struct s { char a; double d; }; };",
-            16,
-            8,
-            &[0, 8],
-        ),
-        (
-            b"enclave { struct s { char a; struct t b[2]; enum e c; uint16_t *p; }; struct t { short x; char y; }; enum e { A }; };",
-            24,
-            8,
-            &[0, 2, 12, 16],
-        ),
-        (b"enclave { struct s { }; };", 0, 1, &[]),
-        (
-            b"enclave { struct s { char a[3]; short b; char c; }; };",
-            8,
-            2,
-            &[0, 4, 6],
-        ),
-        (
-            b"enclave { union s { char a[9]; int b; }; };",
-            12,
-            4,
-            &[0, 0],
-        ),
-        (
-            b"enclave { struct r { char a; int b; short c; }; struct s { r x; long long y; char z; }; };",
-            32,
-            8,
-            &[0, 16, 24],
-        ),
-        (
-            b"enclave { struct s { char a; wchar_t b; size_t c; int8_t d; uint64_t e; float f; }; };",
-            40,
-            8,
-            &[0, 4, 8, 16, 24, 32],
-        ),
-        (
-            b"enclave { struct s { int a[2][3]; char b; }; };",
-            28,
-            4,
-            &[0, 24],
-        ),
-        (
-            b"enclave { struct s { char a; union u b; short c; }; union u { char c[5]; long l; }; };",
-            24,
-            8,
-            &[0, 8, 16],
-        ),
-        (
-            b"enclave { struct s { char a; long b[0]; int c; }; };",
-            16,
-            8,
-            &[0, 8, 8],
-        ),
-        (b"enclave { enum s { A, B }; };", 4, 4, &[]),
-        (
-            b"enclave { struct s { char a; far b; char c; }; };",
-            64,
-            16,
-            &[0, 16, 56],
-        ),
-    ];
-    for (text, size, align, offsets) in rows {
+    for (text, size, align, offsets) in &LAYOUTS {
         assert!(rt; text.len() < 1000);
         let table = layouts(rt.alloc(), text, false)?;
-        check_layout(&rt, &table, b"s", size, align, offsets);
+        check_layout(&rt, &table, b"s", *size, *align, offsets);
     }
     Ok(())
 }
 
+const NAMES: &[u8] =
+    b"enclave { struct s { char a; }; union s { long b; }; struct int8_t { int a; int b; }; struct open { hidden x; }; struct far { short x; }; };";
+
+/// The layouts of names in that text.
+const NAMED: [(&[u8], u32, u32, &[u32]); 5] = [
+    (b"s", 1, 1, &[0]),
+    (b"int8_t", 8, 4, &[0, 4]),
+    (b"far", 2, 2, &[0]),
+    (b"size_t", 8, 8, &[]),
+    (b"uint16_t", 2, 2, &[]),
+];
+
+/// The names that have none there.
+const NAMELESS: [&[u8]; 3] = [b"open", b"hidden", b"other"];
+
 #[test]
 fn names_mean_what_is_declared_first(rt: HostRuntime) -> Result<(), Fail> {
-    let text: &[u8] =
-        b"enclave { struct s { char a; }; union s { long b; }; struct int8_t { int a; int b; }; struct open { hidden x; }; struct far { short x; }; };";
-    let table = layouts(rt.alloc(), text, true)?;
-    check_layout(&rt, &table, b"s", 1, 1, &[0]);
-    check_layout(&rt, &table, b"int8_t", 8, 4, &[0, 4]);
-    check_layout(&rt, &table, b"far", 2, 2, &[0]);
-    check_layout(&rt, &table, b"size_t", 8, 8, &[]);
-    check_layout(&rt, &table, b"uint16_t", 2, 2, &[]);
-    for name in [b"open".as_slice(), b"hidden", b"other"] {
-        assert_eq!(rt; table.size(name), None);
-        assert_eq!(rt; table.align(name), None);
-        assert_eq!(rt; table.offset(name, 0), None);
+    assert!(rt; NAMES.len() < 1000);
+    let table = layouts(rt.alloc(), NAMES, true)?;
+    for (name, size, align, offsets) in &NAMED {
+        check_layout(&rt, &table, name, *size, *align, offsets);
+    }
+    for name in NAMELESS {
+        assert_eq!(rt;
+            (table.size(name), table.align(name), table.offset(name, 0)),
+            (None, None, None)
+        );
     }
     Ok(())
 }
@@ -158,37 +173,39 @@ fn lenient_fault(alloc: Global, text: &[u8]) -> Result<(u8, u32), Fail>
     }
 }
 
+/// Texts with their fault.
+const UNKNOWN: [(&[u8], (u8, u32)); 7] = [
+    (b"enclave { struct s { t x; }; };", (0, 0)),
+    (b"enclave { struct s { struct t x; }; };", (12, 29)),
+    (
+        b"enclave { trusted { public opaque f(opaque x); }; };",
+        (0, 0),
+    ),
+    (
+        b"enclave { trusted { public void f(struct opaque x); }; };",
+        (12, 42),
+    ),
+    // An element counts as one byte.
+    (
+        b"enclave { trusted { public void f(opaque x[2147483647]); }; };",
+        (0, 0),
+    ),
+    (
+        b"enclave { trusted { public void f(opaque x[2147483648]); }; };",
+        (14, 42),
+    ),
+    // A frame with such a type is never too large.
+    (
+        b"enclave { struct s { char a[1025]; }; trusted { void f(struct s x, opaque y); }; };",
+        (0, 0),
+    ),
+];
+
 #[test]
 fn unknown_sizes_are_no_fault(rt: HostRuntime) -> Result<(), Fail> {
-    let rows: [(&[u8], (u8, u32)); 7] = [
-        (b"enclave { struct s { t x; }; };", (0, 0)),
-        (b"enclave { struct s { struct t x; }; };", (12, 29)),
-        (
-            b"enclave { trusted { public opaque f(opaque x); }; };",
-            (0, 0),
-        ),
-        (
-            b"enclave { trusted { public void f(struct opaque x); }; };",
-            (12, 42),
-        ),
-        // An element counts as one byte.
-        (
-            b"enclave { trusted { public void f(opaque x[2147483647]); }; };",
-            (0, 0),
-        ),
-        (
-            b"enclave { trusted { public void f(opaque x[2147483648]); }; };",
-            (14, 42),
-        ),
-        // A frame with such a type is never too large.
-        (
-            b"enclave { struct s { char a[1025]; }; trusted { void f(struct s x, opaque y); }; };",
-            (0, 0),
-        ),
-    ];
-    for (text, wanted) in rows {
+    for (text, wanted) in &UNKNOWN {
         assert!(rt; text.len() < 1000);
-        assert_eq!(rt; lenient_fault(rt.alloc(), text)?, wanted, "{text:?}");
+        assert_eq!(rt; lenient_fault(rt.alloc(), text)?, *wanted, "{text:?}");
     }
     Ok(())
 }
@@ -216,55 +233,62 @@ fn a_chain_is_laid_out_in_either_order(rt: HostRuntime) -> Result<(), Fail> {
     Ok(())
 }
 
+/// Sizes and alignments of fields, with their offset, and the size of the structure up to them.
+const FIELDS: [(u32, u32, u64, u64); 8] = [
+    (1, 1, 0, 1),
+    (4, 4, 4, 8),
+    (2, 2, 8, 12),
+    (1, 1, 10, 12),
+    (8, 8, 16, 24),
+    (1, 1, 24, 32),
+    (0, 1, 25, 32),
+    (4, 16, 32, 48),
+];
+
 #[test]
 fn fields_one_behind_the_other(rt: HostRuntime) {
-    const CHAR: Extent = Extent { size: 1, align: 1 };
-    const SHORT: Extent = Extent { size: 2, align: 2 };
-    const INT: Extent = Extent { size: 4, align: 4 };
+    assert_eq!(rt; Extent::ADDRESS, Extent { size: 8, align: 8 });
     let mut ends = FieldEnds::new();
-    for (field, offset, size) in [
-        (CHAR, 0, 1),
-        (INT, 4, 8),
-        (SHORT, 8, 12),
-        (CHAR, 10, 12),
-        (Extent::ADDRESS, 16, 24),
-        (CHAR, 24, 32),
-        (Extent { size: 0, align: 1 }, 25, 32),
-        (Extent { size: 4, align: 16 }, 32, 48),
-    ] {
-        assert_eq!(rt; ends.push(field), offset, "the offset {offset}");
-        assert_eq!(rt; ends.size(), size, "the size {size}");
+    for (size, align, offset, whole) in FIELDS {
+        assert_eq!(rt;
+            (ends.push(Extent { size, align }), ends.size()),
+            (offset, whole)
+        );
     }
     let mut last = FieldEnds {
         end: u64::MAX - 2,
         align: 1,
     };
-    assert_eq!(rt; (last.push(INT), last.size()), (u64::MAX, u64::MAX));
+    let field = Extent { size: 4, align: 4 };
+    assert_eq!(rt; (last.push(field), last.size()), (u64::MAX, u64::MAX));
 }
+
+const MOST: Option<u64> = Some(u64::MAX);
+
+/// Sizes of elements and dimensions, with the size of the array.
+const ARRAYS: [(u32, &[Option<u64>], u64); 8] = [
+    (
+        1,
+        &[MOST, MOST, MOST, MOST, MOST, MOST, MOST, MOST],
+        u64::MAX,
+    ),
+    (0, &[MOST, MOST, MOST, MOST, MOST, MOST, MOST, MOST], 0),
+    (
+        u32::MAX,
+        &[MOST, MOST, MOST, Some(0), MOST, MOST, MOST, MOST],
+        0,
+    ),
+    (3, &[], 3),
+    (3, &[Some(5), None], 0),
+    (8, &[Some(1 << 28)], 1 << 31),
+    // 2 ^ 64 + 8
+    (8, &[Some((1 << 61) + 1)], u64::MAX),
+    (2, &[Some(3), Some(5)], 30),
+];
 
 #[test]
 fn sizes_of_arrays_do_not_wrap(rt: HostRuntime) {
-    const MOST: Option<u64> = Some(u64::MAX);
-    let rows: [(u32, &[Option<u64>], u64); 8] = [
-        (
-            1,
-            &[MOST, MOST, MOST, MOST, MOST, MOST, MOST, MOST],
-            u64::MAX,
-        ),
-        (0, &[MOST, MOST, MOST, MOST, MOST, MOST, MOST, MOST], 0),
-        (
-            u32::MAX,
-            &[MOST, MOST, MOST, Some(0), MOST, MOST, MOST, MOST],
-            0,
-        ),
-        (3, &[], 3),
-        (3, &[Some(5), None], 0),
-        (8, &[Some(1 << 28)], 1 << 31),
-        // 2 ^ 64 + 8
-        (8, &[Some((1 << 61) + 1)], u64::MAX),
-        (2, &[Some(3), Some(5)], 30),
-    ];
-    for (size, dims, wanted) in rows {
-        assert_eq!(rt; array_size(size, dims), wanted);
+    for (size, dims, wanted) in &ARRAYS {
+        assert_eq!(rt; array_size(*size, dims), *wanted);
     }
 }

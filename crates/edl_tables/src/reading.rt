@@ -11,37 +11,60 @@ use sqlite_items::Items;
 use std::alloc::{AllocError, Global};
 use std::test::Fail;
 
-/// So many functions of file 0, in order.
-fn picks(alloc: Global, count: usize) -> Result<Items<Pick>, AllocError> {
-    let Ok(count) = u32::try_from(count) else {
-        return Err(AllocError);
-    };
-    let mut picks = Items::new(alloc);
-    for index in 0..count {
+/// Takes so many functions of file 0, in order.
+fn pick(picks: &mut Items<Pick>, count: usize) -> Result<(), AllocError> {
+    for (index, _) in (0..u32::MAX).zip(0..count) {
         picks.push(Pick { file: 0, index })?;
     }
-    Ok(picks)
+    Ok(())
+}
+
+/// Reads a file of this name.
+fn source(alloc: Global, name: Name, bytes: &[u8]) -> Result<SourceFile, Fail>
+    requires { length bytes.now ≤ max_file_size }
+{
+    let tokens = lex(alloc, 0, bytes)?;
+    let tree = parse(alloc, 0, bytes, tokens.as_slice())?;
+    Ok(SourceFile {
+        name,
+        tokens: Items::from_vec(tokens),
+        tree,
+    })
+}
+
+/// Puts the file into an interface, which takes all its functions.
+fn take(gathered: &mut Gathered, file: SourceFile) -> Result<(), AllocError> {
+    pick(&mut gathered.trusted, file.tree.trusted.len())?;
+    pick(&mut gathered.untrusted, file.tree.untrusted.len())?;
+    gathered.files.push(file)?;
+    Ok(())
 }
 
 /// The one file of an interface, which takes all its functions.
 pub(crate) fn gathered(alloc: Global, bytes: &[u8]) -> Result<Gathered, Fail>
     requires { length bytes.now ≤ max_file_size }
 {
-    let tokens = lex(alloc, 0, bytes)?;
-    let tree = parse(alloc, 0, bytes, tokens.as_slice())?;
-    let trusted = picks(alloc, tree.trusted.len())?;
-    let untrusted = picks(alloc, tree.untrusted.len())?;
-    let mut files = Items::new(alloc);
-    files.push(SourceFile {
-        name: Name::new(alloc, b"a.edl")?,
-        tokens: Items::from_vec(tokens),
-        tree,
-    })?;
-    Ok(Gathered {
-        files,
-        trusted,
-        untrusted,
-    })
+    let name = Name::new(alloc, b"a.edl")?;
+    let file = source(alloc, name, bytes)?;
+    let mut gathered = Gathered {
+        files: Items::new(alloc),
+        trusted: Items::new(alloc),
+        untrusted: Items::new(alloc),
+    };
+    take(&mut gathered, file)?;
+    Ok(gathered)
+}
+
+/// Puts a foreign type behind the others.
+fn put(
+    alloc: Global,
+    types: &mut Items<ForeignType>,
+    row: &(&[u8], u32, u32),
+) -> Result<(), AllocError> {
+    let (name, size, align) = *row;
+    let name = Name::new(alloc, name)?;
+    types.push(ForeignType { name, size, align })?;
+    Ok(())
 }
 
 /// Foreign types with these names, sizes and alignments.
@@ -51,12 +74,8 @@ pub(crate) fn foreign(
     lenient: bool,
 ) -> Result<ForeignTypes, AllocError> {
     let mut types = Items::new(alloc);
-    for (name, size, align) in rows {
-        types.push(ForeignType {
-            name: Name::new(alloc, name)?,
-            size: *size,
-            align: *align,
-        })?;
+    for row in rows {
+        put(alloc, &mut types, row)?;
     }
     Ok(ForeignTypes { types, lenient })
 }
