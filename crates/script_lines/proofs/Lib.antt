@@ -1,0 +1,3 @@
+pub mod ShapeLaws
+pub mod RowLaws
+pub mod DeclarationLaws
