@@ -1,3 +1,4 @@
 pub mod Shapes
+pub mod Arguments
 pub mod Lines
 pub mod Tables

@@ -51,7 +51,7 @@ impl Shape {
 }
 
 /// Takes a word of this shape.
-fn word<'a>(words: &mut Words<'a>, shape: Shape) -> Option<&'a [u8]>
+pub fn word<'a>(words: &mut Words<'a>, shape: Shape) -> Option<&'a [u8]>
     ensures { MatchOption result (spec.reads shape words.old ≡ None)
         (λ w. spec.reads shape words.old ≡ Some (w.now, words.new)) }
 {

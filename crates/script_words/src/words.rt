@@ -111,6 +111,13 @@ impl<'a> Words<'a> {
         Words { bytes }
     }
 
+    /// The same words once more.
+    pub fn again(&self) -> Words<'a>
+        ensures { result ≡ self.now }
+    {
+        Words { bytes: self.bytes }
+    }
+
     /// Takes the next word.
     pub fn next(&mut self) -> Option<&'a [u8]>
         ensures { MatchOption result ((self.old ≡ []) × (self.new ≡ [])) (λ word. self.old ≡ word.now ∷ self.new) }
