@@ -6,3 +6,4 @@ pub mod ActLaws
 pub mod ActionLaws
 pub mod SettingLaws
 pub mod ScopeLaws
+pub mod NestingLaws

@@ -2,3 +2,5 @@ pub mod Shapes
 pub mod Arguments
 pub mod Lines
 pub mod Tables
+pub mod Nesting
+pub mod Places

@@ -4,12 +4,16 @@
 mod actions;
 mod acts;
 mod arguments;
+mod blocks;
 mod declarations;
 mod line;
 mod lines;
+mod places;
 mod settings;
 mod shapes;
 
 pub use arguments::Arguments;
+pub use blocks::{Block, Blocks, Opening};
 pub use line::{ActionWords, Calculation, Line, Scope, Setting};
 pub use lines::line_in;
+pub use places::{PlacedLine, PlacedLines, left_outermost};
