@@ -172,3 +172,6 @@ pub other_body_line : (w : Word) (ws : List Word) → bytes_eq (codes "temp") w 
     → body_line (w ∷ ws) ≡ action_line (w ∷ ws)
 unfolding body_line action_line
 other_body_line w ws a b = rw (a, b) refl
+
+pub ruleset return_rows = (return_alone, return_value, return_too_long)
+pub ruleset ocall_too_short = (ocall_without_return, ocall_without_status, ocall_without_name)

@@ -218,3 +218,6 @@ module _ (ws : List Word) (w : Word) (xs : List Word) (first : ws ≡ w ∷ xs) 
 pub none_listed : (ws : List Word) → ws ≡ [] → listed ws ≡ []
 unfolding listed
 none_listed ws e = rw e refl
+
+pub ruleset too_short = (nothing_left, argument_alone)
+pub ruleset line_ends = (no_opening, all_arguments, arguments_unclosed, more_than_arguments)

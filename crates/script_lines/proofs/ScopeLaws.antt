@@ -31,6 +31,8 @@ module _ (ws : List Word) where
   unfolding own_line racer_act
   own_in_racer = refl
 
+pub ruleset own_lines = (own_outside, own_in_body, own_in_handler, own_in_thread, own_in_racer)
+
 -- no words are no line
 pub no_words : (scope : Scope) (ws : List Word) → ws ≡ [] → line_in scope ws ≡ None
 no_words Outside ws e = rw e refl

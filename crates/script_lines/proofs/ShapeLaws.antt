@@ -117,3 +117,10 @@ module _ (s : Shape) (ws : List Word) where
         go : (o : Option Word) → is_some o ≡ false → option_map (λ b. w) o ≡ None
         go None e = refl
         go (Some b) e = absurd cc
+
+pub ruleset one_word = (no_word, last_word, one_too_many)
+pub ruleset two_words = (no_first, no_second, both)
+pub ruleset three_words = (no_first_of_three, no_more_of_three, all_three)
+pub ruleset four_words = (no_first_of_four, no_more_of_four, all_four)
+pub ruleset block_opens = (no_block, block_with)
+pub ruleset word_opens = (nothing_opened, word_opened, word_alone)

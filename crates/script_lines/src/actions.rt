@@ -225,7 +225,7 @@ fn skipnz<'a>(words: &mut Words<'a>) -> Option<Line<'a>>
 }
 
 /// `return VALUE`, or `return` alone.
-#[tactic(auto, using(crate::proofs::ActionLaws::return_alone, crate::proofs::ActionLaws::return_value, crate::proofs::ActionLaws::return_too_long))]
+#[tactic(auto, using(crate::proofs::ActionLaws::return_rows))]
 fn give_back<'a>(words: &mut Words<'a>) -> Option<Line<'a>>
     ensures { option_map lines.line_of result ≡ spec.jump (codes "return" ∷ words.old) }
 {
@@ -282,7 +282,7 @@ fn temp<'a>(words: &mut Words<'a>) -> Option<Line<'a>>
 }
 
 /// `ocall RETURNED STATUS NAME(ARG, ..)`
-#[tactic(auto, using(crate::proofs::ActionLaws::ocall_without_return, crate::proofs::ActionLaws::ocall_without_status, crate::proofs::ActionLaws::ocall_without_name, crate::proofs::ActionLaws::ocall_row))]
+#[tactic(auto, using(crate::proofs::ActionLaws::ocall_too_short))]
 fn ocall<'a>(words: &mut Words<'a>) -> Option<Line<'a>>
     ensures { option_map lines.line_of result ≡ spec.body_line (codes "ocall" ∷ words.old) }
 {

@@ -64,7 +64,7 @@ pub fn racer_act<'a>(word: &[u8], words: &mut Words<'a>) -> Option<Line<'a>>
 }
 
 /// `call NAME(ARG, ..)`
-#[tactic(auto, using(crate::proofs::ActLaws::call_without_name, crate::proofs::ActLaws::call_row))]
+#[tactic(auto, using(crate::proofs::ActLaws::call_without_name))]
 fn call<'a>(words: &mut Words<'a>) -> Option<Line<'a>>
     ensures { option_map lines.line_of result ≡ spec.act (codes "call" ∷ words.old) }
 {

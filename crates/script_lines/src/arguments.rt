@@ -30,7 +30,8 @@ impl<'a> Model for Arguments<'a> {
 impl<'a> Arguments<'a> {
     /// Takes the next argument.
     pub fn next(&mut self) -> Option<&'a [u8]>
-        ensures { MatchOption result ((self.old ≡ []) × (self.new ≡ [])) (λ word. self.old ≡ word.now ∷ self.new) }
+        ensures { MatchOption result ((self.old ≡ []) × (self.new ≡ []))
+            (λ word. self.old ≡ word.now ∷ self.new) }
     {
         let mut words = self.words.again();
         let Some(word) = words.next() else {
@@ -45,7 +46,7 @@ impl<'a> Arguments<'a> {
 }
 
 /// The words behind a comma, if one comes first.
-#[tactic(auto, using(crate::proofs::ArgumentLaws::no_comma, crate::proofs::ArgumentLaws::at_the_comma, crate::proofs::ArgumentLaws::before_no_comma))]
+#[tactic(auto, using(crate::proofs::ArgumentLaws::no_comma))]
 fn behind_comma<'a>(words: &Words<'a>) -> Words<'a>
     ensures { result ≡ spec.behind_comma words.now }
 {
@@ -72,7 +73,7 @@ fn is_mark_word(word: &[u8]) -> bool
 }
 
 /// Takes at least one argument, with commas between them, and `)`. Whether they are there.
-#[tactic(auto, using(crate::proofs::ArgumentLaws::nothing_left, crate::proofs::ArgumentLaws::at_mark, crate::proofs::ArgumentLaws::argument_alone, crate::proofs::ArgumentLaws::at_close, crate::proofs::ArgumentLaws::at_comma, crate::proofs::ArgumentLaws::at_other))]
+#[tactic(auto, using(crate::proofs::ArgumentLaws::too_short))]
 fn pass_some(words: &mut Words) -> bool
     ensures { MatchBool result (spec.behind_some words.old ≡ Some words.new) (spec.behind_some words.old ≡ None) }
 {
@@ -94,7 +95,7 @@ fn pass_some(words: &mut Words) -> bool
 }
 
 /// Takes arguments with commas between them, and `)`. Whether they are there.
-#[tactic(auto, using(crate::proofs::ArgumentLaws::no_arguments, crate::proofs::ArgumentLaws::closed_at_once, crate::proofs::ArgumentLaws::some_at_least))]
+#[tactic(auto, using(crate::proofs::ArgumentLaws::no_arguments))]
 fn pass(words: &mut Words) -> bool
     ensures { MatchBool result (spec.behind words.old ≡ Some words.new) (spec.behind words.old ≡ None) }
 {
@@ -110,7 +111,7 @@ fn pass(words: &mut Words) -> bool
 }
 
 /// The arguments in parentheses with which a line ends.
-#[tactic(auto, using(crate::proofs::ArgumentLaws::no_opening, crate::proofs::ArgumentLaws::other_opening, crate::proofs::ArgumentLaws::all_arguments, crate::proofs::ArgumentLaws::arguments_unclosed, crate::proofs::ArgumentLaws::more_than_arguments))]
+#[tactic(auto, using(crate::proofs::ArgumentLaws::line_ends))]
 pub fn last_arguments<'a>(words: &mut Words<'a>) -> Option<Arguments<'a>>
     ensures { result ≡ spec.last_arguments words.old }
 {

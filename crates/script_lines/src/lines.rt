@@ -16,7 +16,7 @@ use crate::shapes::{is_ended, says};
 use script_words::Words;
 
 /// The line of the scope itself that begins with this word, and goes on with these.
-#[tactic(auto, using(crate::proofs::ScopeLaws::own_outside, crate::proofs::ScopeLaws::own_in_body, crate::proofs::ScopeLaws::own_in_handler, crate::proofs::ScopeLaws::own_in_thread, crate::proofs::ScopeLaws::own_in_racer))]
+#[tactic(auto, using(crate::proofs::ScopeLaws::own_lines))]
 fn own_line<'a>(scope: Scope, word: &[u8], words: &mut Words<'a>) -> Option<Line<'a>>
     ensures { option_map lines.line_of result ≡ spec.own_line (lines.scope_of scope.entry) (word.now ∷ words.old) }
 {

@@ -5,7 +5,7 @@ ghost use Rattle.std.specs.Str.{bytes_eq};
 ghost use Rattle.call_script.specs.Spelling as spelling;
 ghost use Rattle.script_lines.specs.Shapes as spec;
 
-use script_words::{Words, is_name, is_number, same};
+use script_words::{Words, is_name, is_number, is_place, same};
 
 /// What a word has to be in its place.
 #[derive(Clone, Copy, Debug, PartialEq, Eq)]
@@ -14,27 +14,6 @@ pub enum Shape {
     Number,
     Name,
     Place,
-}
-
-/// What stands behind `frame+`.
-fn frame_offset(word: &[u8]) -> Option<&[u8]>
-    ensures { option_map (λ w. w.now) result ≡ spelling.frame_offset word.now }
-{
-    if word.starts_with(b"frame+") {
-        Some(&word[6..])
-    } else {
-        None
-    }
-}
-
-/// Whether the word is an address, or a place in a frame.
-fn is_place(word: &[u8]) -> bool
-    ensures { result ≡ spelling.is_place word.now }
-{
-    match frame_offset(word) {
-        Some(offset) => is_number(offset),
-        None => is_number(word),
-    }
 }
 
 impl Shape {
@@ -74,7 +53,7 @@ pub fn is_ended(words: &mut Words) -> bool
 }
 
 /// The word of a line that has one more.
-#[tactic(auto, using(crate::proofs::ShapeLaws::no_word, crate::proofs::ShapeLaws::last_word, crate::proofs::ShapeLaws::one_too_many))]
+#[tactic(auto, using(crate::proofs::ShapeLaws::one_word))]
 pub fn one<'a>(words: &mut Words<'a>, shape: Shape) -> Option<&'a [u8]>
     ensures { option_map (λ w. w.now) result ≡ spec.one shape words.old }
 {
@@ -83,7 +62,7 @@ pub fn one<'a>(words: &mut Words<'a>, shape: Shape) -> Option<&'a [u8]>
 }
 
 /// The words of a line that has two more.
-#[tactic(auto, using(crate::proofs::ShapeLaws::no_first, crate::proofs::ShapeLaws::no_second, crate::proofs::ShapeLaws::both))]
+#[tactic(auto, using(crate::proofs::ShapeLaws::two_words))]
 pub fn two<'a>(words: &mut Words<'a>, first: Shape, second: Shape) -> Option<(&'a [u8], &'a [u8])>
     ensures { option_map (λ t. (t.0.now, t.1.now)) result ≡ spec.two first second words.old }
 {
@@ -93,7 +72,7 @@ pub fn two<'a>(words: &mut Words<'a>, first: Shape, second: Shape) -> Option<(&'
 }
 
 /// The words of a line that has three more.
-#[tactic(auto, using(crate::proofs::ShapeLaws::no_first_of_three, crate::proofs::ShapeLaws::no_more_of_three, crate::proofs::ShapeLaws::all_three))]
+#[tactic(auto, using(crate::proofs::ShapeLaws::three_words))]
 pub fn three<'a>(
     words: &mut Words<'a>,
     first: Shape,
@@ -108,7 +87,7 @@ pub fn three<'a>(
 }
 
 /// The words of a line that has four more.
-#[tactic(auto, using(crate::proofs::ShapeLaws::no_first_of_four, crate::proofs::ShapeLaws::no_more_of_four, crate::proofs::ShapeLaws::all_four))]
+#[tactic(auto, using(crate::proofs::ShapeLaws::four_words))]
 pub fn four<'a>(
     words: &mut Words<'a>,
     first: Shape,
@@ -125,7 +104,7 @@ pub fn four<'a>(
 }
 
 /// Whether a block opens with the next word, which is the last.
-#[tactic(auto, using(crate::proofs::ShapeLaws::no_block, crate::proofs::ShapeLaws::block_with, crate::proofs::ShapeLaws::no_brace))]
+#[tactic(auto, using(crate::proofs::ShapeLaws::block_opens))]
 pub fn opens(words: &mut Words) -> bool
     ensures { result ≡ spec.opens words.old }
 {
@@ -136,7 +115,7 @@ pub fn opens(words: &mut Words) -> bool
 }
 
 /// The word of a line that has one more, and opens a block.
-#[tactic(auto, using(crate::proofs::ShapeLaws::nothing_opened, crate::proofs::ShapeLaws::word_opened, crate::proofs::ShapeLaws::word_alone))]
+#[tactic(auto, using(crate::proofs::ShapeLaws::word_opens))]
 pub fn opened<'a>(words: &mut Words<'a>, shape: Shape) -> Option<&'a [u8]>
     ensures { option_map (λ w. w.now) result ≡ spec.opened shape words.old }
 {

@@ -4,5 +4,5 @@
 mod spelling;
 mod words;
 
-pub use spelling::{is_name, is_number, is_out_of, number_of};
+pub use spelling::{frame_offset, is_name, is_number, is_out_of, is_place, number_of};
 pub use words::{NumberedLine, NumberedLines, Words, begins_with, behind_first, same};

@@ -1,6 +1,6 @@
 //! What a word spells.
 
-ghost use Rattle.std.specs.Prelude.{◌≡◌, ◌||◌};
+ghost use Rattle.std.specs.Prelude.{◌≡◌, ◌||◌, option_map};
 ghost use Rattle.std.specs.List.{list_all, list_any};
 ghost use Rattle.std.specs.Char.{is_ascii_digit, is_ascii_hexdigit};
 ghost use Rattle.std.specs.Str.{bytes_eq};
@@ -131,4 +131,25 @@ pub fn is_name(word: &[u8]) -> bool
     ensures { result ≡ spec.is_name word.now }
 {
     begins_with_letter(word) && are_letters_or_digits(word) && !is_reserved(word)
+}
+
+/// What stands behind `frame+`.
+pub fn frame_offset(word: &[u8]) -> Option<&[u8]>
+    ensures { option_map (λ w. w.now) result ≡ spec.frame_offset word.now }
+{
+    if word.starts_with(b"frame+") {
+        Some(&word[6..])
+    } else {
+        None
+    }
+}
+
+/// Whether the word is an address, or a place in a frame.
+pub fn is_place(word: &[u8]) -> bool
+    ensures { result ≡ spec.is_place word.now }
+{
+    match frame_offset(word) {
+        Some(offset) => is_number(offset),
+        None => is_number(word),
+    }
 }
