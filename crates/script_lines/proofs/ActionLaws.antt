@@ -30,7 +30,9 @@ calculation_row how.Or ws = or-none _ ∙ do-two (alone action.Or) Register regi
 calculation_row how.Xor ws = or-none _ ∙ do-two (alone action.Xor) Register register_in Any Value value_in Any ws
 
 -- no row begins with the word
-pub no_calculation : (w : Word) (ws : List Word) → bytes_eq (codes "set") w ≡ false → bytes_eq (codes "add") w ≡ false → bytes_eq (codes "sub") w ≡ false → bytes_eq (codes "mul") w ≡ false → bytes_eq (codes "and") w ≡ false → bytes_eq (codes "or") w ≡ false → bytes_eq (codes "xor") w ≡ false → calculation (w ∷ ws) ≡ None
+pub no_calculation : (w : Word) (ws : List Word) → bytes_eq (codes "set") w ≡ false → bytes_eq (codes "add") w ≡ false
+    → bytes_eq (codes "sub") w ≡ false → bytes_eq (codes "mul") w ≡ false → bytes_eq (codes "and") w ≡ false
+    → bytes_eq (codes "or") w ≡ false → bytes_eq (codes "xor") w ≡ false → calculation (w ∷ ws) ≡ None
 unfolding calculation
 no_calculation w ws a b c d e f g = rw (a, b, c, d, e, f, g) refl
 
@@ -75,17 +77,22 @@ module _ (ws : List Word) where
   pub cswap_row : on_cell (codes "cswap" ∷ ws)
       ≡ option_map (λ p. Do (alone action.Cswap · register p.0 · cell p.1.0 · value p.1.1)) (three Any Number Any ws)
   unfolding on_cell
-  cswap_row = or-none _ ∙ do-three (alone action.Cswap) Register register_in Any CellNumber number_in Number Value value_in Any ws
+  cswap_row = or-none _
+      ∙ do-three (alone action.Cswap) Register register_in Any CellNumber number_in Number Value value_in Any ws
 
   pub cadd_row : on_cell (codes "cadd" ∷ ws)
       ≡ option_map (λ p. Do (alone action.Cadd · register p.0 · cell p.1.0 · value p.1.1)) (three Any Number Any ws)
   unfolding on_cell
-  cadd_row = or-none _ ∙ do-three (alone action.Cadd) Register register_in Any CellNumber number_in Number Value value_in Any ws
+  cadd_row = or-none _
+      ∙ do-three (alone action.Cadd) Register register_in Any CellNumber number_in Number Value value_in Any ws
 
   pub ccas_row : on_cell (codes "ccas" ∷ ws)
-      ≡ option_map (λ p. Do (alone action.Ccas · register p.0 · cell p.1.0 · value p.1.1.0 · value p.1.1.1)) (four Any Number Any Any ws)
+      ≡ option_map (λ p. Do (alone action.Ccas · register p.0 · cell p.1.0 · value p.1.1.0 · value p.1.1.1))
+      (four Any Number Any Any ws)
   unfolding on_cell
-  ccas_row = or-none _ ∙ do-four (alone action.Ccas) Register register_in Any CellNumber number_in Number Value value_in Any Value value_in Any ws
+  ccas_row = or-none _
+      ∙ do-four (alone action.Ccas) Register register_in Any CellNumber number_in Number Value value_in Any
+      Value value_in Any ws
 
   pub skipz_row : jump (codes "skipz" ∷ ws)
       ≡ option_map (λ p. Do (alone action.Skipz · register p.0 · skip p.1)) (two Any Number ws)
@@ -106,7 +113,8 @@ module _ (ws : List Word) where
     unfolding jump
     return_value e = rw first (go xs e)
       where
-        go : (ys : List Word) → is_ended ys ≡ true → jump (codes "return" ∷ w ∷ ys) ≡ Some (Do (alone action.Return · value w))
+        go : (ys : List Word) → is_ended ys ≡ true
+            → jump (codes "return" ∷ w ∷ ys) ≡ Some (Do (alone action.Return · value w))
         go [] e = refl
         go (y ∷ ys) e = absurd cc
 
@@ -119,15 +127,20 @@ module _ (ws : List Word) where
         go [] e = absurd cc
 
 -- no row of these begins with the word
-pub no_block_line : (w : Word) (ws : List Word) → bytes_eq (codes "len") w ≡ false → bytes_eq (codes "sum") w ≡ false → bytes_eq (codes "get") w ≡ false → bytes_eq (codes "put") w ≡ false → bytes_eq (codes "fill") w ≡ false → bytes_eq (codes "copy") w ≡ false → on_block (w ∷ ws) ≡ None
+pub no_block_line : (w : Word) (ws : List Word) → bytes_eq (codes "len") w ≡ false → bytes_eq (codes "sum") w ≡ false
+    → bytes_eq (codes "get") w ≡ false → bytes_eq (codes "put") w ≡ false → bytes_eq (codes "fill") w ≡ false
+    → bytes_eq (codes "copy") w ≡ false → on_block (w ∷ ws) ≡ None
 unfolding on_block
 no_block_line w ws a b c d e f = rw (a, b, c, d, e, f) refl
 
-pub no_cell_line : (w : Word) (ws : List Word) → bytes_eq (codes "cload") w ≡ false → bytes_eq (codes "cswap") w ≡ false → bytes_eq (codes "cadd") w ≡ false → bytes_eq (codes "ccas") w ≡ false → on_cell (w ∷ ws) ≡ None
+pub no_cell_line : (w : Word) (ws : List Word) → bytes_eq (codes "cload") w ≡ false
+    → bytes_eq (codes "cswap") w ≡ false → bytes_eq (codes "cadd") w ≡ false → bytes_eq (codes "ccas") w ≡ false
+    → on_cell (w ∷ ws) ≡ None
 unfolding on_cell
 no_cell_line w ws a b c d = rw (a, b, c, d) refl
 
-pub no_jump : (w : Word) (ws : List Word) → bytes_eq (codes "skipz") w ≡ false → bytes_eq (codes "skipnz") w ≡ false → bytes_eq (codes "return") w ≡ false → jump (w ∷ ws) ≡ None
+pub no_jump : (w : Word) (ws : List Word) → bytes_eq (codes "skipz") w ≡ false → bytes_eq (codes "skipnz") w ≡ false
+    → bytes_eq (codes "return") w ≡ false → jump (w ∷ ws) ≡ None
 unfolding jump
 no_jump w ws a b c = rw (a, b, c) refl
 
@@ -168,10 +181,12 @@ module _ (ws : List Word) where
       unfolding body_line last_arguments
       ocall_row w zs e = rw (returned, status, e) (or-none _ ∙ ended-with (Ocall r q w) (arguments zs))
 
-pub other_body_line : (w : Word) (ws : List Word) → bytes_eq (codes "temp") w ≡ false → bytes_eq (codes "ocall") w ≡ false
+pub other_body_line : (w : Word) (ws : List Word) → bytes_eq (codes "temp") w ≡ false
+    → bytes_eq (codes "ocall") w ≡ false
     → body_line (w ∷ ws) ≡ action_line (w ∷ ws)
 unfolding body_line action_line
 other_body_line w ws a b = rw (a, b) refl
 
 pub ruleset return_rows = (return_alone, return_value, return_too_long)
+
 pub ruleset ocall_too_short = (ocall_without_return, ocall_without_status, ocall_without_name)

@@ -8,7 +8,8 @@ use Rattle.call_script.specs.Parser.{some_arguments, arguments_to_close, with_ar
 use Rattle.script_lines.specs.Shapes.{is_ended}
 use Rattle.script_lines.specs.Arguments.{listed, behind, behind_some, behind_comma, last_arguments}
 
-unless_with : (w : Word) (o : Option (List Word × List Word)) → option_map (λ p. p.1) (with_argument w o) ≡ option_map (λ p. p.1) o
+unless_with : (w : Word) (o : Option (List Word × List Word))
+    → option_map (λ p. p.1) (with_argument w o) ≡ option_map (λ p. p.1) o
 unless_with w None = refl
 unless_with w (Some p) = refl
 
@@ -52,7 +53,8 @@ module _ (ws : List Word) where
   unfolding behind
   closed_at_once w xs first e = rw (first, e) refl
 
-  pub some_at_least : (w : Word) (xs : List Word) → ws ≡ w ∷ xs → bytes_eq w (codes ")") ≡ false → behind ws ≡ behind_some ws
+  pub some_at_least : (w : Word) (xs : List Word) → ws ≡ w ∷ xs → bytes_eq w (codes ")") ≡ false
+      → behind ws ≡ behind_some ws
   unfolding behind behind_some
   some_at_least w xs first e = rw (first, e) refl
 
@@ -91,19 +93,22 @@ module _ (ws : List Word) where
     unfolding behind listed
     all_arguments ys e f g = sym (inside e ∙ go (arguments_to_close xs) ys f g)
       where
-        go : (o : Option (List Word × List Word)) (ys : List Word) → option_map (λ p. p.1) o ≡ Some ys → is_ended ys ≡ true
+        go : (o : Option (List Word × List Word)) (ys : List Word) → option_map (λ p. p.1) o ≡ Some ys
+            → is_ended ys ≡ true
             → ended o ≡ Some (unwrap_or (option_map (λ p. p.0) o) [])
         go None ys f g = absurd cc
         go (Some (a, [])) ys f g = refl
         go (Some (a, z ∷ zs)) [] f g = absurd cc
         go (Some (a, z ∷ zs)) (y ∷ ys) f g = absurd cc
 
-    pub more_than_arguments : (ys : List Word) → bytes_eq (codes "(") w ≡ true → behind xs ≡ Some ys → is_ended ys ≡ false
+    pub more_than_arguments : (ys : List Word)
+        → bytes_eq (codes "(") w ≡ true → behind xs ≡ Some ys → is_ended ys ≡ false
         → None ≡ last_arguments ws
     unfolding behind
     more_than_arguments ys e f g = sym (inside e ∙ go (arguments_to_close xs) ys f g)
       where
-        go : (o : Option (List Word × List Word)) (ys : List Word) → option_map (λ p. p.1) o ≡ Some ys → is_ended ys ≡ false
+        go : (o : Option (List Word × List Word)) (ys : List Word) → option_map (λ p. p.1) o ≡ Some ys
+            → is_ended ys ≡ false
             → ended o ≡ None
         go None ys f g = absurd cc
         go (Some (a, z ∷ zs)) ys f g = refl
@@ -178,7 +183,8 @@ rest-of w (m ∷ ys) e h = at_word (is_mark_word w) refl
         let next : behind_comma (m ∷ ys) ≡ ys = rw k refl in
         record {
           listed_on = ap (λ o. unwrap_or (option_map (λ p. p.0) o) []) all ∙ listed-comma w (some_arguments ys) more
-              ∙ ap (λ o. w ∷ unwrap_or (option_map (λ p. p.0) o) []) (sym (some-there ys more)) ∙ ap (λ zs. w ∷ listed zs) (sym next);
+              ∙ ap (λ o. w ∷ unwrap_or (option_map (λ p. p.0) o) []) (sym (some-there ys more))
+              ∙ ap (λ zs. w ∷ listed zs) (sym next);
           behind_on = ap (option_map (λ p. p.1)) all ∙ unless_with w (some_arguments ys)
               ∙ ap (option_map (λ p. p.1)) (sym (some-there ys more)) ∙ ap behind (sym next);
         }
@@ -209,10 +215,12 @@ module _ (ws : List Word) (w : Word) (xs : List Word) (first : ws ≡ w ∷ xs) 
   rest : bytes_eq w (codes ")") ≡ false → is_some (behind ws) ≡ true → Rest w (w ∷ xs) (behind_comma xs)
   rest e h = rest-of w xs e (ap (λ vs. is_some (behind vs)) (sym first) ∙ h)
 
-  pub next_listed : bytes_eq w (codes ")") ≡ false → is_some (behind ws) ≡ true → listed ws ≡ w ∷ listed (behind_comma xs)
+  pub next_listed : bytes_eq w (codes ")") ≡ false → is_some (behind ws) ≡ true
+      → listed ws ≡ w ∷ listed (behind_comma xs)
   next_listed e h = ap listed first ∙ (rest e h).listed_on
 
-  pub next_closed : bytes_eq w (codes ")") ≡ false → is_some (behind ws) ≡ true → is_some (behind (behind_comma xs)) ≡ true
+  pub next_closed : bytes_eq w (codes ")") ≡ false → is_some (behind ws) ≡ true
+      → is_some (behind (behind_comma xs)) ≡ true
   next_closed e h = ap is_some (sym (ap behind first ∙ (rest e h).behind_on)) ∙ h
 
 pub none_listed : (ws : List Word) → ws ≡ [] → listed ws ≡ []
@@ -220,4 +228,5 @@ unfolding listed
 none_listed ws e = rw e refl
 
 pub ruleset too_short = (nothing_left, argument_alone)
+
 pub ruleset line_ends = (no_opening, all_arguments, arguments_unclosed, more_than_arguments)

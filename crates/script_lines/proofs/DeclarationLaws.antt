@@ -46,7 +46,8 @@ module _ (ws : List Word) where
 pub ruleset rows = (foreign_row, bytes_row, cell_row, race_row, body_row, handler_row, thread_row, racer_row)
 
 -- no row begins with the word
-pub no_declaration : (w : Word) (ws : List Word) → bytes_eq (codes "foreign") w ≡ false → bytes_eq (codes "bytes") w ≡ false
+pub no_declaration : (w : Word) (ws : List Word) → bytes_eq (codes "foreign") w ≡ false
+    → bytes_eq (codes "bytes") w ≡ false
     → bytes_eq (codes "cell") w ≡ false → bytes_eq (codes "race") w ≡ false → bytes_eq (codes "body") w ≡ false
     → bytes_eq (codes "handler") w ≡ false → bytes_eq (codes "thread") w ≡ false → bytes_eq (codes "racer") w ≡ false
     → declaration (w ∷ ws) ≡ None

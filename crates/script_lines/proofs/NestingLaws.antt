@@ -91,7 +91,8 @@ scope_turn bs i d h =
 module _ (around after : List block.Block) (l : NumberedLine) (lines ls : List NumberedLine) (first : lines ≡ l ∷ ls)
     (behind : after ≡ open_after around l) where
   pub taken : (o : Option Line) → o ≡ line_at around l
-      → block.placed_from around lines ≡ record { number = l.number; blocks = around; line = o } ∷ block.placed_from after ls
+      → block.placed_from around lines
+      ≡ record { number = l.number; blocks = around; line = o } ∷ block.placed_from after ls
   unfolding line_at open_after
   taken o e = rw (first, behind, e) refl
 
@@ -104,7 +105,8 @@ pub behind_line : (around after : List block.Block) (l : NumberedLine) (o : Opti
 unfolding line_at open_after
 behind_line around after l o e f = e ∙ ap (λ p. block.open_behind l.number p around) (sym f)
 
-pub all_passed : (around : List block.Block) (lines : List NumberedLine) → lines ≡ [] → open_after_all around lines ≡ around
+pub all_passed : (around : List block.Block) (lines : List NumberedLine) → lines ≡ []
+    → open_after_all around lines ≡ around
 unfolding open_after_all
 all_passed around lines e = rw e refl
 

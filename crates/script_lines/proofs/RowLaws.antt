@@ -13,11 +13,13 @@ pub or-none : {A : Type 0} (o : Option A) → or_else o None ≡ o
 or-none None = refl
 or-none (Some a) = refl
 
-twice : {A B C : Type 0} (g : B → C) (f : A → B) (o : Option A) → option_map g (option_map f o) ≡ option_map (λ a. g (f a)) o
+twice : {A B C : Type 0} (g : B → C) (f : A → B) (o : Option A)
+    → option_map g (option_map f o) ≡ option_map (λ a. g (f a)) o
 twice g f None = refl
 twice g f (Some a) = refl
 
-pub ended-with : {A B : Type 0} (f : A → B) (o : Option (A × List Word)) → ended (and_then o (λ a. pure (f a))) ≡ option_map f (ended o)
+pub ended-with : {A B : Type 0} (f : A → B) (o : Option (A × List Word))
+    → ended (and_then o (λ a. pure (f a))) ≡ option_map f (ended o)
 ended-with f None = refl
 ended-with f (Some (a, [])) = refl
 ended-with f (Some (a, w ∷ ws)) = refl
@@ -61,7 +63,8 @@ four-is f s t u v ws = go (reads s ws)
         (λ g. reads u >>= λ b. pure (g b))) (λ g. reads v >>= λ b. pure (g b)))
         ≡ option_map (λ p. f p.0 p.1.0 p.1.1.0 p.1.1.1) (before o (three t u v))
     go None = refl
-    go (Some (a, xs)) = three-is (f a) t u v xs ∙ sym (twice (λ p. f p.0 p.1.0 p.1.1.0 p.1.1.1) (λ b. (a, b)) (three t u v xs))
+    go (Some (a, xs)) = three-is (f a) t u v xs
+        ∙ sym (twice (λ p. f p.0 p.1.0 p.1.1.0 p.1.1.1) (λ b. (a, b)) (three t u v xs))
 
 pub opened-is : {A : Type 0} (f : Word → A) (s : Shape) (ws : List Word)
     → ended ((pure f <*> reads s <* said "{") ws) ≡ option_map f (opened s ws)
@@ -124,41 +127,45 @@ module _ {A B C : Type 0} (f : Phrase (A → B → C)) (r : Role) (m : BodyNames
 
 module _ {A B D C : Type 0} (f : Phrase (A → B → D → C)) (r : Role) (m : BodyNames → Word → A) (s : Shape) (q : Role)
     (n : BodyNames → Word → B) (t : Shape) (k : Role) (l : BodyNames → Word → D) (u : Shape) where
+  abbrev three_words : Word × (Word × Word) → Phrase C
+  three_words p = applied (applied (applied f (word_phrase r m p.0)) (word_phrase q n p.1.0)) (word_phrase k l p.1.1)
+
   phrase-three : (ws : List Word)
       → ended ((pure f · in_role r m (reads s) · in_role q n (reads t) · in_role k l (reads u)) ws)
-      ≡ option_map (λ p. applied (applied (applied f (word_phrase r m p.0)) (word_phrase q n p.1.0)) (word_phrase k l p.1.1))
-      (three s t u ws)
+      ≡ option_map three_words (three s t u ws)
   unfolding three
   phrase-three ws = go (reads s ws)
     where
       go : (o : Option (Word × List Word))
           → ended (and_then (and_then (and_then (and_then o (λ w. pure (word_phrase r m w))) (λ a. pure (applied f a)))
-          (λ g. in_role q n (reads t) >>= λ a. pure (applied g a))) (λ g. in_role k l (reads u) >>= λ a. pure (applied g a)))
-          ≡ option_map (λ p. applied (applied (applied f (word_phrase r m p.0)) (word_phrase q n p.1.0)) (word_phrase k l p.1.1))
-          (before o (two t u))
+          (λ g. in_role q n (reads t) >>= λ a. pure (applied g a)))
+          (λ g. in_role k l (reads u) >>= λ a. pure (applied g a)))
+          ≡ option_map three_words (before o (two t u))
       go None = refl
       go (Some (w, xs)) =
           phrase-two (applied f (word_phrase r m w)) q n t k l u xs
-          ∙ sym (twice (λ p. applied (applied (applied f (word_phrase r m p.0)) (word_phrase q n p.1.0)) (word_phrase k l p.1.1))
-          (λ b. (w, b)) (two t u xs))
+          ∙ sym (twice three_words (λ b. (w, b)) (two t u xs))
 
-module _ {A B D E C : Type 0} (f : Phrase (A → B → D → E → C)) (r : Role) (m : BodyNames → Word → A) (s : Shape) (q : Role)
-    (n : BodyNames → Word → B) (t : Shape) (k : Role) (l : BodyNames → Word → D) (u : Shape) (i : Role)
-    (h : BodyNames → Word → E) (v : Shape) where
+module _ {A B D E C : Type 0} (f : Phrase (A → B → D → E → C)) (r : Role) (m : BodyNames → Word → A)
+    (s : Shape) (q : Role) (n : BodyNames → Word → B) (t : Shape) (k : Role) (l : BodyNames → Word → D) (u : Shape)
+    (i : Role) (h : BodyNames → Word → E) (v : Shape) where
   abbrev four_words : Word × (Word × (Word × Word)) → Phrase C
   four_words p =
       applied (applied (applied (applied f (word_phrase r m p.0)) (word_phrase q n p.1.0)) (word_phrase k l p.1.1.0))
       (word_phrase i h p.1.1.1)
 
   phrase-four : (ws : List Word)
-      → ended ((pure f · in_role r m (reads s) · in_role q n (reads t) · in_role k l (reads u) · in_role i h (reads v)) ws)
+      → ended ((pure f · in_role r m (reads s) · in_role q n (reads t) · in_role k l (reads u) · in_role i h (reads v))
+      ws)
       ≡ option_map four_words (four s t u v ws)
   unfolding four
   phrase-four ws = go (reads s ws)
     where
       go : (o : Option (Word × List Word))
-          → ended (and_then (and_then (and_then (and_then (and_then o (λ w. pure (word_phrase r m w))) (λ a. pure (applied f a)))
-          (λ g. in_role q n (reads t) >>= λ a. pure (applied g a))) (λ g. in_role k l (reads u) >>= λ a. pure (applied g a)))
+          → ended (and_then (and_then (and_then (and_then (and_then o (λ w. pure (word_phrase r m w)))
+          (λ a. pure (applied f a)))
+          (λ g. in_role q n (reads t) >>= λ a. pure (applied g a)))
+          (λ g. in_role k l (reads u) >>= λ a. pure (applied g a)))
           (λ g. in_role i h (reads v) >>= λ a. pure (applied g a)))
           ≡ option_map four_words (before o (three t u v))
       go None = refl
@@ -175,26 +182,26 @@ do-two f r m s q n t ws =
     ∙ ap (option_map Do) (phrase-two f r m s q n t ws)
     ∙ twice Do (λ p. applied (applied f (word_phrase r m p.0)) (word_phrase q n p.1)) (two s t ws)
 
-pub do-three : {A B D : Type 0} (f : Phrase (A → B → D → Action)) (r : Role) (m : BodyNames → Word → A) (s : Shape) (q : Role)
-    (n : BodyNames → Word → B) (t : Shape) (k : Role) (l : BodyNames → Word → D) (u : Shape) (ws : List Word)
+pub do-three : {A B D : Type 0} (f : Phrase (A → B → D → Action)) (r : Role) (m : BodyNames → Word → A)
+    (s : Shape) (q : Role) (n : BodyNames → Word → B) (t : Shape) (k : Role) (l : BodyNames → Word → D) (u : Shape)
+    (ws : List Word)
     → ended (doing (pure f · in_role r m (reads s) · in_role q n (reads t) · in_role k l (reads u)) ws)
-    ≡ option_map
-    (λ p. Do (applied (applied (applied f (word_phrase r m p.0)) (word_phrase q n p.1.0)) (word_phrase k l p.1.1)))
-    (three s t u ws)
+    ≡ option_map (λ p. Do (three_words f r m s q n t k l u p)) (three s t u ws)
 do-three f r m s q n t k l u ws =
     ended-with Do ((pure f · in_role r m (reads s) · in_role q n (reads t) · in_role k l (reads u)) ws)
     ∙ ap (option_map Do) (phrase-three f r m s q n t k l u ws)
-    ∙ twice Do (λ p. applied (applied (applied f (word_phrase r m p.0)) (word_phrase q n p.1.0)) (word_phrase k l p.1.1))
-    (three s t u ws)
+    ∙ twice Do (three_words f r m s q n t k l u) (three s t u ws)
 
 pub do-four : {A B D E : Type 0} (f : Phrase (A → B → D → E → Action)) (r : Role) (m : BodyNames → Word → A) (s : Shape)
-    (q : Role) (n : BodyNames → Word → B) (t : Shape) (k : Role) (l : BodyNames → Word → D) (u : Shape) (i : Role)
-    (h : BodyNames → Word → E) (v : Shape) (ws : List Word)
-    → ended (doing (pure f · in_role r m (reads s) · in_role q n (reads t) · in_role k l (reads u) · in_role i h (reads v)) ws)
+    (q : Role) (n : BodyNames → Word → B) (t : Shape) (k : Role) (l : BodyNames → Word → D) (u : Shape)
+    (i : Role) (h : BodyNames → Word → E) (v : Shape) (ws : List Word)
+    → ended
+    (doing (pure f · in_role r m (reads s) · in_role q n (reads t) · in_role k l (reads u) · in_role i h (reads v)) ws)
     ≡ option_map (λ p. Do (four_words f r m s q n t k l u i h v p)) (four s t u v ws)
 do-four f r m s q n t k l u i h v ws =
     ended-with Do
-    ((pure f · in_role r m (reads s) · in_role q n (reads t) · in_role k l (reads u) · in_role i h (reads v)) ws)
+    ((pure f · in_role r m (reads s) · in_role q n (reads t) · in_role k l (reads u) · in_role i h (reads v))
+    ws)
     ∙ ap (option_map Do) (phrase-four f r m s q n t k l u i h v ws)
     ∙ twice Do (four_words f r m s q n t k l u i h v) (four s t u v ws)
 

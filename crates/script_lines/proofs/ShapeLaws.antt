@@ -47,7 +47,8 @@ module _ (s t u : Shape) (ws : List Word) where
   unfolding three
   no_first_of_three e = rw e refl
 
-  pub no_more_of_three : (w : Word) (xs : List Word) → reads s ws ≡ Some (w, xs) → two t u xs ≡ None → three s t u ws ≡ None
+  pub no_more_of_three : (w : Word) (xs : List Word) → reads s ws ≡ Some (w, xs) → two t u xs ≡ None
+      → three s t u ws ≡ None
   unfolding three
   no_more_of_three w xs e f = rw (e, f) refl
 
@@ -66,7 +67,8 @@ module _ (s t u v : Shape) (ws : List Word) where
   unfolding four
   no_more_of_four w xs e f = rw (e, f) refl
 
-  pub all_four : (w : Word) (xs : List Word) (p : Word × (Word × Word)) → reads s ws ≡ Some (w, xs) → three t u v xs ≡ Some p
+  pub all_four : (w : Word) (xs : List Word) (p : Word × (Word × Word)) → reads s ws ≡ Some (w, xs)
+      → three t u v xs ≡ Some p
       → four s t u v ws ≡ Some (w, p)
   unfolding four
   all_four w xs p e f = rw (e, f) refl
@@ -119,8 +121,13 @@ module _ (s : Shape) (ws : List Word) where
         go (Some b) e = absurd cc
 
 pub ruleset one_word = (no_word, last_word, one_too_many)
+
 pub ruleset two_words = (no_first, no_second, both)
+
 pub ruleset three_words = (no_first_of_three, no_more_of_three, all_three)
+
 pub ruleset four_words = (no_first_of_four, no_more_of_four, all_four)
+
 pub ruleset block_opens = (no_block, block_with)
+
 pub ruleset word_opens = (nothing_opened, word_opened, word_alone)

@@ -28,6 +28,15 @@ impl<'a> Model for Arguments<'a> {
 }
 
 impl<'a> Arguments<'a> {
+    /// The same arguments once more.
+    pub fn again(&self) -> Arguments<'a>
+        ensures { result ≡ self.now }
+    {
+        Arguments {
+            words: self.words.again(),
+        }
+    }
+
     /// Takes the next argument.
     pub fn next(&mut self) -> Option<&'a [u8]>
         ensures { MatchOption result ((self.old ≡ []) × (self.new ≡ []))
