@@ -1,7 +1,7 @@
 -- How many lines a text has.
 use Rattle.std.proofs.Common.{arith, ℕ, suc, ◌≤◌, ◌≡◌, Bool, true, false, List, [], ◌∷◌, length, refl}
 use Rattle.std.specs.Prelude.{◌==◌}
-use Rattle.call_script.specs.Spelling.{lines, with_line_byte, onto}
+use Rattle.call_script.specs.Spelling.{lines, with_line_byte}
 
 length_with : (b : ℕ) (ls : List (List ℕ)) → length (with_line_byte b ls) ≤ suc (length ls)
 length_with b ls = go (b == 10) refl ls

@@ -1,9 +1,9 @@
 -- The first word of a line, and the first line of a script.
-use Rattle.std.proofs.Common.{arith, ℕ, zero, suc, ◌+◌, ◌-◌, ◌<◌, ◌≤◌, ◌≡◌, max, Bool, true, false, ◌&&◌, cond, List, [], ◌∷◌, length, take, drop, get_or, refl, ap, sym, ◌∙◌, subst, eqb-true, length-drop}
+use Rattle.std.proofs.Common.{arith, ℕ, zero, suc, ◌+◌, ◌-◌, ◌<◌, ◌≡◌, max, Bool, true, false, cond, List, [], ◌∷◌, length, take, drop, get_or, refl, ap, sym, ◌∙◌, subst, eqb-true, length-drop}
 use Rattle.std.proofs.Math.Seq.{take-length}
 use Rattle.std.specs.Prelude.{◌==◌, ◌||◌, not}
 use Rattle.std.specs.List.{prefix_len}
-use Rattle.call_script.specs.Spelling.{Word, words, is_mark, with_byte, onto, is_blank, is_word, begins, lines, with_line_byte}
+use Rattle.call_script.specs.Spelling.{Word, words, is_mark, onto, is_blank, is_word, lines}
 
 -- blanks are passed over
 skip_blanks : (bytes : List ℕ) → words bytes ≡ words (drop (prefix_len is_blank bytes) bytes)

@@ -1,4 +1,3 @@
-use Rattle.std.proofs.Common.{arith, subst, length}
 use Rattle.script_words.proofs.LineLaws.{few_lines}
 use Rattle.script_words.proofs.words.Lines.new.Goals as goal
 
