@@ -1,0 +1,15 @@
+//! What the words of a line mean: numbers, bytes, arguments, the names of a body, settings.
+#![tactic(auto)]
+
+mod arguments;
+mod body_names;
+mod spelling;
+
+pub use arguments::{
+    argument_of, is_bad_hex_argument, is_frame_argument, is_misfit, is_place_argument_out,
+    is_wrong_argument,
+};
+pub use body_names::{BodyNames, register_of};
+pub use spelling::{
+    bytes_of, is_bad_hex, is_in_frame, is_place, is_place_out, is_wide, place_named,
+};
