@@ -1,3 +1,4 @@
 pub mod HexLaws
 pub mod NameLaws
 pub mod NumberLaws
+pub mod SettingLaws

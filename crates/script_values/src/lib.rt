@@ -3,6 +3,7 @@
 
 mod arguments;
 mod body_names;
+mod settings;
 mod spelling;
 
 pub use arguments::{
@@ -10,6 +11,7 @@ pub use arguments::{
     is_wrong_argument,
 };
 pub use body_names::{BodyNames, register_of};
+pub use settings::{Setting, default_settings, for_program, with_setting};
 pub use spelling::{
     bytes_of, is_bad_hex, is_in_frame, is_place, is_place_out, is_wide, place_named,
 };

@@ -1,0 +1,33 @@
+-- The row of each setting, and the settings behind one more line.
+use Rattle.std.specs.Prelude.{◌≡◌, true, false, List, [], ◌∷◌, ◌++◌, Some, is_some}
+use Rattle.std.specs.List.{list_any}
+use Rattle.edl_interface.specs.declared.Interface.{Interface}
+use Rattle.call_script.specs.declared.Settings.{Settings}
+use Rattle.call_script.specs.Spelling.{Word}
+use Rattle.call_script.specs.Settings as row
+use Rattle.call_script.specs.Line.{Line, Set}
+use Rattle.call_script.specs.Block.{PlacedLine}
+use Rattle.call_script.specs.Standing.{lines_of, set_to}
+use Rattle.call_script.specs.Meaning.{settings}
+use Rattle.script_values.specs.declared.settings.Setting.{Setting}
+use Rattle.script_values.specs.declared.settings.Setting.TheVariants.{Host, Stack, Arena, Cells, Retries, Tworkers, Uworkers, Slots}
+
+abbrev pub row_of : Setting → row.Setting
+row_of Host = row.host
+row_of Stack = row.stack
+row_of Arena = row.arena
+row_of Cells = row.cells
+row_of Retries = row.retries
+row_of Tworkers = row.tworkers
+row_of Uworkers = row.uworkers
+row_of Slots = row.slots
+
+-- no line gives the setting
+abbrev pub IsUngiven : row.Setting → List Line → Type 0
+IsUngiven s ls = list_any (λ line. is_some (set_to s line)) ls ≡ false
+
+-- the second are the settings of a script of which the first are, with one more line that gives this one by this word
+abbrev pub AddsSetting : row.Setting → Word → Settings → Settings → Type 0
+AddsSetting s w old new =
+    (i : Interface) (script : List PlacedLine) (l : PlacedLine) → old ≡ settings i true script
+    → l.line ≡ Some (Set s w) → IsUngiven s (lines_of script) → new ≡ settings i true (script ++ l ∷ [])
