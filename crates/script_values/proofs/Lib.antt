@@ -1,3 +1,4 @@
+pub mod ActionLaws
 pub mod HexLaws
 pub mod NameLaws
 pub mod NumberLaws

@@ -1,11 +1,13 @@
 //! What the words of a line mean: numbers, bytes, arguments, the names of a body, settings.
 #![tactic(auto)]
 
+mod actions;
 mod arguments;
 mod body_names;
 mod settings;
 mod spelling;
 
+pub use actions::{ActionWords, WordRule};
 pub use arguments::{
     argument_of, is_bad_hex_argument, is_frame_argument, is_misfit, is_place_argument_out,
     is_wrong_argument,
