@@ -1,4 +1,5 @@
 pub mod ActionLaws
+pub mod CallLaws
 pub mod HexLaws
 pub mod NameLaws
 pub mod NumberLaws

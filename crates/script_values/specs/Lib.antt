@@ -1,2 +1,3 @@
 pub mod Actions
+pub mod Calls
 pub mod Settings

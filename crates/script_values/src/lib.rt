@@ -4,6 +4,7 @@
 mod actions;
 mod arguments;
 mod body_names;
+mod calls;
 mod settings;
 mod spelling;
 
@@ -13,6 +14,10 @@ pub use arguments::{
     is_wrong_argument,
 };
 pub use body_names::{BodyNames, register_of};
+pub use calls::{
+    ArgumentRule, call_arguments, has_frame_place, has_other_count, has_place_out, has_wide_number,
+    ocall_passes,
+};
 pub use settings::{Setting, default_settings, for_program, with_setting};
 pub use spelling::{
     bytes_of, is_bad_hex, is_in_frame, is_place, is_place_out, is_wide, place_named,
