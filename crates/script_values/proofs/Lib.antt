@@ -3,4 +3,5 @@ pub mod CallLaws
 pub mod HexLaws
 pub mod NameLaws
 pub mod NumberLaws
+pub mod RowLaws
 pub mod SettingLaws

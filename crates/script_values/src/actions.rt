@@ -1,18 +1,20 @@
 //! The actions of bodies: what may be wrong with their words, and what they mean.
 
-ghost use Rattle.std.specs.Prelude.{◌≡◌, ◌<◌, ◌-◌, ◌^◌, false, unwrap_or};
+ghost use Rattle.std.specs.Prelude.{◌≡◌, ◌<◌, ◌-◌, ◌^◌, ◌∷◌, [], false, option_map, unwrap_or};
 ghost use Rattle.body_vm.specs.declared.Operand.TheVariants as operand;
 ghost use Rattle.sgx_base.specs.Numbers.{spelled_number};
 ghost use Rattle.call_script.specs.BodyNames as names;
-ghost use Rattle.call_script.specs.Line.{Register, Block, Value, CellNumber, SkipCount};
+ghost use Rattle.call_script.specs.Line.{Register, Block, Value, CellNumber, SkipCount, actions};
+ghost use Rattle.call_script.specs.Parser.{first_to_read, or_else};
 ghost use Rattle.call_script.specs.Arguments.{number_of};
 ghost use Rattle.call_script.specs.Parts.{any_part, is_no_cell, is_skip_past};
 ghost use Rattle.script_values.specs.Actions as spec;
+ghost use Rattle.script_values.specs.Rows as rows;
 
 use crate::body_names::{BodyNames, register_of};
 use crate::spelling::{is_dotted_name, is_wide};
 use body_vm::{Action, Operand};
-use script_words::{is_number, number_of};
+use script_words::{Words, is_number, number_of, same};
 
 /// An action by the words behind its first, in order.
 #[derive(Clone, Copy)]
@@ -38,6 +40,144 @@ pub enum ActionWords<'a> {
     Skipnz(&'a [u8], &'a [u8]),
     Return(&'a [u8]),
     ReturnZero,
+}
+
+fn into_register<'a>(first: &[u8], r: &'a [u8], v: &'a [u8]) -> Option<ActionWords<'a>>
+    ensures { option_map spec.phrase_of result ≡ first_to_read rows.register_rows (first.now ∷ r.now ∷ v.now ∷ []) }
+{
+    if same(b"set", first) {
+        Some(ActionWords::Set(r, v))
+    } else if same(b"add", first) {
+        Some(ActionWords::Add(r, v))
+    } else if same(b"sub", first) {
+        Some(ActionWords::Sub(r, v))
+    } else if same(b"mul", first) {
+        Some(ActionWords::Mul(r, v))
+    } else if same(b"and", first) {
+        Some(ActionWords::And(r, v))
+    } else if same(b"or", first) {
+        Some(ActionWords::Or(r, v))
+    } else if same(b"xor", first) {
+        Some(ActionWords::Xor(r, v))
+    } else if same(b"len", first) {
+        Some(ActionWords::Len(r, v))
+    } else if same(b"sum", first) {
+        Some(ActionWords::Sum(r, v))
+    } else {
+        None
+    }
+}
+
+fn other_of_two<'a>(first: &[u8], a: &'a [u8], b: &'a [u8]) -> Option<ActionWords<'a>>
+    ensures { option_map spec.phrase_of result ≡ first_to_read rows.other_rows (first.now ∷ a.now ∷ b.now ∷ []) }
+{
+    if same(b"fill", first) {
+        Some(ActionWords::Fill(a, b))
+    } else if same(b"copy", first) {
+        Some(ActionWords::Copy(a, b))
+    } else if !is_number(b) {
+        None
+    } else if same(b"cload", first) {
+        Some(ActionWords::Cload(a, b))
+    } else if same(b"skipz", first) {
+        Some(ActionWords::Skipz(a, b))
+    } else if same(b"skipnz", first) {
+        Some(ActionWords::Skipnz(a, b))
+    } else {
+        None
+    }
+}
+
+fn of_two<'a>(first: &[u8], a: &'a [u8], b: &'a [u8]) -> Option<ActionWords<'a>>
+    ensures { option_map spec.phrase_of result ≡ or_else
+        (first_to_read rows.register_rows (first.now ∷ a.now ∷ b.now ∷ []))
+        (first_to_read rows.other_rows (first.now ∷ a.now ∷ b.now ∷ [])) }
+{
+    match into_register(first, a, b) {
+        Some(action) => Some(action),
+        None => other_of_two(first, a, b),
+    }
+}
+
+fn of_three<'a>(first: &[u8], a: &'a [u8], b: &'a [u8], c: &'a [u8]) -> Option<ActionWords<'a>>
+    ensures { option_map spec.phrase_of result
+        ≡ first_to_read rows.three_rows (first.now ∷ a.now ∷ b.now ∷ c.now ∷ []) }
+{
+    if same(b"get", first) {
+        Some(ActionWords::Get(a, b, c))
+    } else if same(b"put", first) {
+        Some(ActionWords::Put(a, b, c))
+    } else if !is_number(b) {
+        None
+    } else if same(b"cswap", first) {
+        Some(ActionWords::Cswap(a, b, c))
+    } else if same(b"cadd", first) {
+        Some(ActionWords::Cadd(a, b, c))
+    } else {
+        None
+    }
+}
+
+fn of_four<'a>(
+    first: &[u8],
+    a: &'a [u8],
+    b: &'a [u8],
+    c: &'a [u8],
+    d: &'a [u8],
+) -> Option<ActionWords<'a>>
+    ensures { option_map spec.phrase_of result
+        ≡ first_to_read rows.four_rows (first.now ∷ a.now ∷ b.now ∷ c.now ∷ d.now ∷ []) }
+{
+    if is_number(b) && same(b"ccas", first) {
+        Some(ActionWords::Ccas(a, b, c, d))
+    } else {
+        None
+    }
+}
+
+fn of_one<'a>(first: &[u8], a: &'a [u8]) -> Option<ActionWords<'a>>
+    ensures { option_map spec.phrase_of result ≡ first_to_read rows.one_rows (first.now ∷ a.now ∷ []) }
+{
+    if same(b"return", first) {
+        Some(ActionWords::Return(a))
+    } else {
+        None
+    }
+}
+
+fn of_none<'a>(first: &[u8]) -> Option<ActionWords<'a>>
+    ensures { option_map spec.phrase_of result ≡ first_to_read rows.lone_rows (first.now ∷ []) }
+{
+    if same(b"return", first) {
+        Some(ActionWords::ReturnZero)
+    } else {
+        None
+    }
+}
+
+impl<'a> ActionWords<'a> {
+    /// The action that a line is by its first word and those behind.
+    #[tactic(auto, using(crate::proofs::RowLaws::at_none, crate::proofs::RowLaws::at_one, crate::proofs::RowLaws::two_tables, crate::proofs::RowLaws::at_three, crate::proofs::RowLaws::at_four, crate::proofs::RowLaws::at_more))]
+    pub fn read(first: &[u8], words: &mut Words<'a>) -> Option<ActionWords<'a>>
+        ensures { option_map spec.phrase_of result ≡ first_to_read actions (first.now ∷ words.old) }
+    {
+        let Some(a) = words.next() else {
+            return of_none(first);
+        };
+        let Some(b) = words.next() else {
+            return of_one(first, a);
+        };
+        let Some(c) = words.next() else {
+            return of_two(first, a, b);
+        };
+        let Some(d) = words.next() else {
+            return of_three(first, a, b, c);
+        };
+        match words.next() {
+            None => of_four(first, a, b, c, d),
+            Some(_) => None,
+        }
+    }
 }
 
 /// A rule of the words of actions.
