@@ -1,5 +1,6 @@
 pub mod ActionLaws
 pub mod CallLaws
+pub mod FunctionLaws
 pub mod HexLaws
 pub mod NameLaws
 pub mod NumberLaws

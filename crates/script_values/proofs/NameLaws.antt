@@ -29,7 +29,8 @@ module _ {A : Type 0} (p q : A → Bool) (alike : (x : A) → p x ≡ q x) where
   position-alike xs = rw (prefix_len-alike xs) refl
 
 module _ {A : Type 0} (p : A → Bool) (xs ys : List A) where
-  first_passing : position_or_len p (xs ++ ys) ≡ cond (position_or_len p xs == length xs) (length xs + position_or_len p ys) (position_or_len p xs)
+  first_passing : position_or_len p (xs ++ ys)
+      ≡ cond (position_or_len p xs == length xs) (length xs + position_or_len p ys) (position_or_len p xs)
   first_passing = prefix_len-append (λ x. not (p x)) xs ys
 
   within : position_or_len p xs ≤ length xs
@@ -73,7 +74,8 @@ module _ {A : Type 0} (p : A → Bool) (xs ys : List A) where
     | inr l ↦
         let at = behind e in
         let len : length (xs ++ ys) ≡ length xs + length ys = length-append xs ys in
-        let more : nat_lt (length xs + position_or_len p ys) (length xs + length ys) ≡ false = le-ltb _ _ (omega arith) in
+        let more : nat_lt (length xs + position_or_len p ys) (length xs + length ys) ≡ false =
+        le-ltb _ _ (omega arith) in
         rw (at, len, more) refl
   ]
 
@@ -99,8 +101,12 @@ module _ (names : BodyNames) (w : Word) where
 
   pub any_param : is_param names w ≡ is_some (position (λ p. bytes_eq p.name w) names.params)
   any_param =
-      ap is_some (position-alike (λ p. bytes_eq p.name w && true) (λ p. bytes_eq p.name w) (λ p. and_true (bytes_eq p.name w)) names.params)
+      ap is_some
+      (position-alike (λ p. bytes_eq p.name w && true) (λ p. bytes_eq p.name w) (λ p. and_true (bytes_eq p.name w))
+      names.params)
     where
       and_true : (b : Bool) → b && true ≡ b
       and_true true = refl
       and_true false = refl
+
+pub ruleset blocks = (marshalled_block, temporary_block, no_block)

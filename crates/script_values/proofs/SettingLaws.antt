@@ -77,7 +77,8 @@ module _ (s : row.Setting) where
   given ls w n e f g =
       let one : filter_map (set_to s) (Set s w ∷ []) ≡ n ∷ [] = rw (e, f) refl in
       ap (λ ns. unwrap_or (slice_get ns 0) s.default)
-      (filter_map-append (set_to s) ls (Set s w ∷ []) ∙ ap (λ ns. ns ++ filter_map (set_to s) (Set s w ∷ [])) (ungiven ls g) ∙ one)
+      (filter_map-append (set_to s) ls (Set s w ∷ [])
+      ∙ ap (λ ns. ns ++ filter_map (set_to s) (Set s w ∷ [])) (ungiven ls g) ∙ one)
 
 -- ---- all of them
 
@@ -95,14 +96,86 @@ those f = record {
 
 -- the settings with one of them changed
 abbrev pub changed : Settings → Setting → ℕ → Settings
-changed st Host n = record { host = n; stack = st.stack; arena = st.arena; cells = st.cells; retries = st.retries; tworkers = st.tworkers; uworkers = st.uworkers; slots = st.slots }
-changed st Stack n = record { host = st.host; stack = n; arena = st.arena; cells = st.cells; retries = st.retries; tworkers = st.tworkers; uworkers = st.uworkers; slots = st.slots }
-changed st Arena n = record { host = st.host; stack = st.stack; arena = n; cells = st.cells; retries = st.retries; tworkers = st.tworkers; uworkers = st.uworkers; slots = st.slots }
-changed st Cells n = record { host = st.host; stack = st.stack; arena = st.arena; cells = n; retries = st.retries; tworkers = st.tworkers; uworkers = st.uworkers; slots = st.slots }
-changed st Retries n = record { host = st.host; stack = st.stack; arena = st.arena; cells = st.cells; retries = n; tworkers = st.tworkers; uworkers = st.uworkers; slots = st.slots }
-changed st Tworkers n = record { host = st.host; stack = st.stack; arena = st.arena; cells = st.cells; retries = st.retries; tworkers = n; uworkers = st.uworkers; slots = st.slots }
-changed st Uworkers n = record { host = st.host; stack = st.stack; arena = st.arena; cells = st.cells; retries = st.retries; tworkers = st.tworkers; uworkers = n; slots = st.slots }
-changed st Slots n = record { host = st.host; stack = st.stack; arena = st.arena; cells = st.cells; retries = st.retries; tworkers = st.tworkers; uworkers = st.uworkers; slots = n }
+changed st Host n = record {
+  host = n;
+  stack = st.stack;
+  arena = st.arena;
+  cells = st.cells;
+  retries = st.retries;
+  tworkers = st.tworkers;
+  uworkers = st.uworkers;
+  slots = st.slots;
+}
+changed st Stack n = record {
+  host = st.host;
+  stack = n;
+  arena = st.arena;
+  cells = st.cells;
+  retries = st.retries;
+  tworkers = st.tworkers;
+  uworkers = st.uworkers;
+  slots = st.slots;
+}
+changed st Arena n = record {
+  host = st.host;
+  stack = st.stack;
+  arena = n;
+  cells = st.cells;
+  retries = st.retries;
+  tworkers = st.tworkers;
+  uworkers = st.uworkers;
+  slots = st.slots;
+}
+changed st Cells n = record {
+  host = st.host;
+  stack = st.stack;
+  arena = st.arena;
+  cells = n;
+  retries = st.retries;
+  tworkers = st.tworkers;
+  uworkers = st.uworkers;
+  slots = st.slots;
+}
+changed st Retries n = record {
+  host = st.host;
+  stack = st.stack;
+  arena = st.arena;
+  cells = st.cells;
+  retries = n;
+  tworkers = st.tworkers;
+  uworkers = st.uworkers;
+  slots = st.slots;
+}
+changed st Tworkers n = record {
+  host = st.host;
+  stack = st.stack;
+  arena = st.arena;
+  cells = st.cells;
+  retries = st.retries;
+  tworkers = n;
+  uworkers = st.uworkers;
+  slots = st.slots;
+}
+changed st Uworkers n = record {
+  host = st.host;
+  stack = st.stack;
+  arena = st.arena;
+  cells = st.cells;
+  retries = st.retries;
+  tworkers = st.tworkers;
+  uworkers = n;
+  slots = st.slots;
+}
+changed st Slots n = record {
+  host = st.host;
+  stack = st.stack;
+  arena = st.arena;
+  cells = st.cells;
+  retries = st.retries;
+  tworkers = st.tworkers;
+  uworkers = st.uworkers;
+  slots = n;
+}
 
 module _ (ls : List Line) (w : Word) (n : ℕ) (number : spelled_number w ≡ Some n) where
   abbrev before : row.Setting → ℕ
@@ -111,16 +184,101 @@ module _ (ls : List Line) (w : Word) (n : ℕ) (number : spelled_number w ≡ So
   abbrev after : row.Setting → row.Setting → ℕ
   after t = setting_in (ls ++ Set t w ∷ [])
 
-  one_more : (s : Setting) → IsUngiven (row_of s) ls
-      → changed (those before) s n ≡ those (after (row_of s))
-  one_more Host g = rw (given row.host ls w n refl number g, kept row.stack row.host ls w refl, kept row.arena row.host ls w refl, kept row.cells row.host ls w refl, kept row.retries row.host ls w refl, kept row.tworkers row.host ls w refl, kept row.uworkers row.host ls w refl, kept row.slots row.host ls w refl) refl
-  one_more Stack g = rw (given row.stack ls w n refl number g, kept row.host row.stack ls w refl, kept row.arena row.stack ls w refl, kept row.cells row.stack ls w refl, kept row.retries row.stack ls w refl, kept row.tworkers row.stack ls w refl, kept row.uworkers row.stack ls w refl, kept row.slots row.stack ls w refl) refl
-  one_more Arena g = rw (given row.arena ls w n refl number g, kept row.host row.arena ls w refl, kept row.stack row.arena ls w refl, kept row.cells row.arena ls w refl, kept row.retries row.arena ls w refl, kept row.tworkers row.arena ls w refl, kept row.uworkers row.arena ls w refl, kept row.slots row.arena ls w refl) refl
-  one_more Cells g = rw (given row.cells ls w n refl number g, kept row.host row.cells ls w refl, kept row.stack row.cells ls w refl, kept row.arena row.cells ls w refl, kept row.retries row.cells ls w refl, kept row.tworkers row.cells ls w refl, kept row.uworkers row.cells ls w refl, kept row.slots row.cells ls w refl) refl
-  one_more Retries g = rw (given row.retries ls w n refl number g, kept row.host row.retries ls w refl, kept row.stack row.retries ls w refl, kept row.arena row.retries ls w refl, kept row.cells row.retries ls w refl, kept row.tworkers row.retries ls w refl, kept row.uworkers row.retries ls w refl, kept row.slots row.retries ls w refl) refl
-  one_more Tworkers g = rw (given row.tworkers ls w n refl number g, kept row.host row.tworkers ls w refl, kept row.stack row.tworkers ls w refl, kept row.arena row.tworkers ls w refl, kept row.cells row.tworkers ls w refl, kept row.retries row.tworkers ls w refl, kept row.uworkers row.tworkers ls w refl, kept row.slots row.tworkers ls w refl) refl
-  one_more Uworkers g = rw (given row.uworkers ls w n refl number g, kept row.host row.uworkers ls w refl, kept row.stack row.uworkers ls w refl, kept row.arena row.uworkers ls w refl, kept row.cells row.uworkers ls w refl, kept row.retries row.uworkers ls w refl, kept row.tworkers row.uworkers ls w refl, kept row.slots row.uworkers ls w refl) refl
-  one_more Slots g = rw (given row.slots ls w n refl number g, kept row.host row.slots ls w refl, kept row.stack row.slots ls w refl, kept row.arena row.slots ls w refl, kept row.cells row.slots ls w refl, kept row.retries row.slots ls w refl, kept row.tworkers row.slots ls w refl, kept row.uworkers row.slots ls w refl) refl
+  now : (s : row.Setting) → bytes_eq s.word s.word ≡ true → IsUngiven s ls → after s s ≡ n
+  now s e g = given s ls w n e number g
+
+  still : (s t : row.Setting) → bytes_eq s.word t.word ≡ false → after t s ≡ before s
+  still s t e = kept s t ls w e
+
+  one_more : (s : Setting) → IsUngiven (row_of s) ls → changed (those before) s n ≡ those (after (row_of s))
+  one_more Host g =
+      rw (
+        now row.host refl g,
+        still row.stack row.host refl,
+        still row.arena row.host refl,
+        still row.cells row.host refl,
+        still row.retries row.host refl,
+        still row.tworkers row.host refl,
+        still row.uworkers row.host refl,
+        still row.slots row.host refl,
+      ) refl
+  one_more Stack g =
+      rw (
+        now row.stack refl g,
+        still row.host row.stack refl,
+        still row.arena row.stack refl,
+        still row.cells row.stack refl,
+        still row.retries row.stack refl,
+        still row.tworkers row.stack refl,
+        still row.uworkers row.stack refl,
+        still row.slots row.stack refl,
+      ) refl
+  one_more Arena g =
+      rw (
+        now row.arena refl g,
+        still row.host row.arena refl,
+        still row.stack row.arena refl,
+        still row.cells row.arena refl,
+        still row.retries row.arena refl,
+        still row.tworkers row.arena refl,
+        still row.uworkers row.arena refl,
+        still row.slots row.arena refl,
+      ) refl
+  one_more Cells g =
+      rw (
+        now row.cells refl g,
+        still row.host row.cells refl,
+        still row.stack row.cells refl,
+        still row.arena row.cells refl,
+        still row.retries row.cells refl,
+        still row.tworkers row.cells refl,
+        still row.uworkers row.cells refl,
+        still row.slots row.cells refl,
+      ) refl
+  one_more Retries g =
+      rw (
+        now row.retries refl g,
+        still row.host row.retries refl,
+        still row.stack row.retries refl,
+        still row.arena row.retries refl,
+        still row.cells row.retries refl,
+        still row.tworkers row.retries refl,
+        still row.uworkers row.retries refl,
+        still row.slots row.retries refl,
+      ) refl
+  one_more Tworkers g =
+      rw (
+        now row.tworkers refl g,
+        still row.host row.tworkers refl,
+        still row.stack row.tworkers refl,
+        still row.arena row.tworkers refl,
+        still row.cells row.tworkers refl,
+        still row.retries row.tworkers refl,
+        still row.uworkers row.tworkers refl,
+        still row.slots row.tworkers refl,
+      ) refl
+  one_more Uworkers g =
+      rw (
+        now row.uworkers refl g,
+        still row.host row.uworkers refl,
+        still row.stack row.uworkers refl,
+        still row.arena row.uworkers refl,
+        still row.cells row.uworkers refl,
+        still row.retries row.uworkers refl,
+        still row.tworkers row.uworkers refl,
+        still row.slots row.uworkers refl,
+      ) refl
+  one_more Slots g =
+      rw (
+        now row.slots refl g,
+        still row.host row.slots refl,
+        still row.stack row.slots refl,
+        still row.arena row.slots refl,
+        still row.cells row.slots refl,
+        still row.retries row.slots refl,
+        still row.tworkers row.slots refl,
+        still row.uworkers row.slots refl,
+      ) refl
 
 lines-behind : (script : List PlacedLine) (l : PlacedLine) (line : Line) → l.line ≡ Some line
     → lines_of (script ++ l ∷ []) ≡ lines_of script ++ line ∷ []

@@ -157,7 +157,7 @@ fn of_none<'a>(first: &[u8]) -> Option<ActionWords<'a>>
 
 impl<'a> ActionWords<'a> {
     /// The action that a line is by its first word and those behind.
-    #[tactic(auto, using(crate::proofs::RowLaws::at_none, crate::proofs::RowLaws::at_one, crate::proofs::RowLaws::two_tables, crate::proofs::RowLaws::at_three, crate::proofs::RowLaws::at_four, crate::proofs::RowLaws::at_more))]
+    #[tactic(auto, using(crate::proofs::RowLaws::rows_of_words))]
     pub fn read(first: &[u8], words: &mut Words<'a>) -> Option<ActionWords<'a>>
         ensures { option_map spec.phrase_of result ≡ first_to_read actions (first.now ∷ words.old) }
     {
@@ -249,7 +249,8 @@ impl WordRule<'_> {
     }
 }
 
-fn register_or_zero(word: &[u8]) -> u8
+/// The register that a word is, 0 where it is none.
+pub fn register_or_zero(word: &[u8]) -> u8
     ensures { result ≡ unwrap_or (names.register_of word.now) 0 }
 {
     register_of(word).unwrap_or(0)
@@ -264,7 +265,8 @@ fn small_number(word: &[u8]) -> u32
 }
 
 impl BodyNames<'_> {
-    fn block_or_zero(&self, word: &[u8]) -> u32
+    /// The block of this name, 0 where there is none.
+    pub fn block_or_zero(&self, word: &[u8]) -> u32
         ensures { result ≡ unwrap_or (names.block_of self.now word.now) 0 }
     {
         self.block_of(word).unwrap_or(0)

@@ -191,7 +191,8 @@ fn pointer_of(word: &[u8]) -> CallArg
 
 /// The value behind `#`.
 fn opaque_of(alloc: Global, word: &[u8]) -> Result<CallArg, AllocError>
-    ensures { IfOk result (λ arg. arg ≡ call_arg.Bytes (spec.bytes_of (unwrap_or (spelling.behind_hash word.now) (codes "")))) }
+    ensures { IfOk result (λ arg.
+        arg ≡ call_arg.Bytes (spec.bytes_of (unwrap_or (spelling.behind_hash word.now) (codes "")))) }
 {
     match behind_hash(word) {
         Some(hex) => Ok(CallArg::Bytes(bytes_of(alloc, hex)?)),

@@ -123,7 +123,7 @@ impl<'a> BodyNames<'a> {
     }
 
     /// The block of this name: the marshalled parameters stand before the temporaries.
-    #[tactic(auto, using(crate::proofs::NameLaws::marshalled_block, crate::proofs::NameLaws::temporary_block, crate::proofs::NameLaws::no_block))]
+    #[tactic(auto, using(crate::proofs::NameLaws::blocks))]
     pub fn block_of(&self, word: &[u8]) -> Option<u32>
         ensures { result ≡ spec.block_of self.now word.now }
     {

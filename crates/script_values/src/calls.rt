@@ -51,7 +51,8 @@ impl ArgumentRule<'_> {
     }
 
     fn is_broken_among(&self, params: &[Param], args: &[&[u8]]) -> bool
-        ensures { result ≡ list_any (λ p. spec.is_broken self.now p.0 p.1) (zip params.now (map (λ w. w.now) args.now)) }
+        ensures { result ≡ list_any (λ p. spec.is_broken self.now p.0 p.1)
+            (zip params.now (map (λ w. w.now) args.now)) }
     {
         let [param, params @ ..] = params else {
             return false;
@@ -64,7 +65,8 @@ impl ArgumentRule<'_> {
 
     /// Whether an argument breaks the rule at its parameter.
     pub fn is_broken_by_one(&self, function: &Function, args: &[&[u8]]) -> bool
-        ensures { result ≡ standing.any_argument (spec.is_broken self.now) (Some function.now) (map (λ w. w.now) args.now) }
+        ensures { result
+            ≡ standing.any_argument (spec.is_broken self.now) (Some function.now) (map (λ w. w.now) args.now) }
     {
         self.is_broken_among(function.params.as_slice(), args)
     }
@@ -154,7 +156,8 @@ fn push_passes(
     args: &[&[u8]],
 ) -> Result<(), AllocError>
     ensures { OnOk result (values.new ≡ values.old
-        ++ map (λ p. unwrap_or (pass_of names.now p.0 p.1) (pass.Bytes None)) (zip params.now (map (λ w. w.now) args.now))) }
+        ++ map (λ p. unwrap_or (pass_of names.now p.0 p.1) (pass.Bytes None))
+        (zip params.now (map (λ w. w.now) args.now))) }
 {
     let [param, params @ ..] = params else {
         return Ok(());
@@ -173,7 +176,7 @@ pub fn ocall_passes(
     function: &Function,
     args: &[&[u8]],
 ) -> Result<Items<Pass>, AllocError>
-    ensures { IfOk result (λ values. spec.ArePasses names.now function.now (map (λ w. w.now) args.now) values) }
+    ensures { IfOk result (λ values. spec.ArePasses names.now (Some function.now) (map (λ w. w.now) args.now) values) }
 {
     let mut values = Items::new(alloc);
     push_passes(&mut values, names, function.params.as_slice(), args)?;

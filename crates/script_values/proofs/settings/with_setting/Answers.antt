@@ -8,40 +8,40 @@ overflow_cast-number c = omega (arith, value_fits c.args.setting c.args.word.now
 
 pub returns-in-Host : goal.returns-in-Host
 returns-in-Host c =
-    adds_setting c.args.settings c.args.setting Host c.args.word.now c.number_of-number.result c.in-Host.is c.requires
-    c.number_of-number.ensures
+    adds_setting c.args.settings c.args.setting Host c.args.word.now c.number_of-number.result c.in-Host.is
+    c.requires c.number_of-number.ensures
 
 pub returns-in-Stack : goal.returns-in-Stack
 returns-in-Stack c =
-    adds_setting c.args.settings c.args.setting Stack c.args.word.now c.number_of-number.result c.in-Stack.is c.requires
-    c.number_of-number.ensures
+    adds_setting c.args.settings c.args.setting Stack c.args.word.now c.number_of-number.result c.in-Stack.is
+    c.requires c.number_of-number.ensures
 
 pub returns-in-Arena : goal.returns-in-Arena
 returns-in-Arena c =
-    adds_setting c.args.settings c.args.setting Arena c.args.word.now c.number_of-number.result c.in-Arena.is c.requires
-    c.number_of-number.ensures
+    adds_setting c.args.settings c.args.setting Arena c.args.word.now c.number_of-number.result c.in-Arena.is
+    c.requires c.number_of-number.ensures
 
 pub returns-in-Cells : goal.returns-in-Cells
 returns-in-Cells c =
-    adds_setting c.args.settings c.args.setting Cells c.args.word.now c.number_of-number.result c.in-Cells.is c.requires
-    c.number_of-number.ensures
+    adds_setting c.args.settings c.args.setting Cells c.args.word.now c.number_of-number.result c.in-Cells.is
+    c.requires c.number_of-number.ensures
 
 pub returns-in-Retries : goal.returns-in-Retries
 returns-in-Retries c =
-    adds_setting c.args.settings c.args.setting Retries c.args.word.now c.number_of-number.result c.in-Retries.is c.requires
-    c.number_of-number.ensures
+    adds_setting c.args.settings c.args.setting Retries c.args.word.now c.number_of-number.result c.in-Retries.is
+    c.requires c.number_of-number.ensures
 
 pub returns-in-Tworkers : goal.returns-in-Tworkers
 returns-in-Tworkers c =
-    adds_setting c.args.settings c.args.setting Tworkers c.args.word.now c.number_of-number.result c.in-Tworkers.is c.requires
-    c.number_of-number.ensures
+    adds_setting c.args.settings c.args.setting Tworkers c.args.word.now c.number_of-number.result c.in-Tworkers.is
+    c.requires c.number_of-number.ensures
 
 pub returns-in-Uworkers : goal.returns-in-Uworkers
 returns-in-Uworkers c =
-    adds_setting c.args.settings c.args.setting Uworkers c.args.word.now c.number_of-number.result c.in-Uworkers.is c.requires
-    c.number_of-number.ensures
+    adds_setting c.args.settings c.args.setting Uworkers c.args.word.now c.number_of-number.result c.in-Uworkers.is
+    c.requires c.number_of-number.ensures
 
 pub returns-in-Slots : goal.returns-in-Slots
 returns-in-Slots c =
-    adds_setting c.args.settings c.args.setting Slots c.args.word.now c.number_of-number.result c.in-Slots.is c.requires
-    c.number_of-number.ensures
+    adds_setting c.args.settings c.args.setting Slots c.args.word.now c.number_of-number.result c.in-Slots.is
+    c.requires c.number_of-number.ensures
