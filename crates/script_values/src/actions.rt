@@ -42,77 +42,86 @@ pub enum ActionWords<'a> {
     ReturnZero,
 }
 
-fn into_register<'a>(first: &[u8], r: &'a [u8], v: &'a [u8]) -> Option<ActionWords<'a>>
-    ensures { option_map spec.phrase_of result ≡ first_to_read rows.register_rows (first.now ∷ r.now ∷ v.now ∷ []) }
+/// The action of two words behind the first that changes a register.
+fn into_register<'a>(first: &[u8], second: &'a [u8], third: &'a [u8]) -> Option<ActionWords<'a>>
+    ensures { option_map spec.phrase_of result
+        ≡ first_to_read rows.register_rows (first.now ∷ second.now ∷ third.now ∷ []) }
 {
     if same(b"set", first) {
-        Some(ActionWords::Set(r, v))
+        Some(ActionWords::Set(second, third))
     } else if same(b"add", first) {
-        Some(ActionWords::Add(r, v))
+        Some(ActionWords::Add(second, third))
     } else if same(b"sub", first) {
-        Some(ActionWords::Sub(r, v))
+        Some(ActionWords::Sub(second, third))
     } else if same(b"mul", first) {
-        Some(ActionWords::Mul(r, v))
+        Some(ActionWords::Mul(second, third))
     } else if same(b"and", first) {
-        Some(ActionWords::And(r, v))
+        Some(ActionWords::And(second, third))
     } else if same(b"or", first) {
-        Some(ActionWords::Or(r, v))
+        Some(ActionWords::Or(second, third))
     } else if same(b"xor", first) {
-        Some(ActionWords::Xor(r, v))
+        Some(ActionWords::Xor(second, third))
     } else if same(b"len", first) {
-        Some(ActionWords::Len(r, v))
+        Some(ActionWords::Len(second, third))
     } else if same(b"sum", first) {
-        Some(ActionWords::Sum(r, v))
+        Some(ActionWords::Sum(second, third))
     } else {
         None
     }
 }
 
-fn other_of_two<'a>(first: &[u8], a: &'a [u8], b: &'a [u8]) -> Option<ActionWords<'a>>
-    ensures { option_map spec.phrase_of result ≡ first_to_read rows.other_rows (first.now ∷ a.now ∷ b.now ∷ []) }
+/// The action of two words behind the first on a block, a cell or the actions behind.
+fn other_of_two<'a>(first: &[u8], second: &'a [u8], third: &'a [u8]) -> Option<ActionWords<'a>>
+    ensures { option_map spec.phrase_of result
+        ≡ first_to_read rows.other_rows (first.now ∷ second.now ∷ third.now ∷ []) }
 {
     if same(b"fill", first) {
-        Some(ActionWords::Fill(a, b))
+        Some(ActionWords::Fill(second, third))
     } else if same(b"copy", first) {
-        Some(ActionWords::Copy(a, b))
-    } else if !is_number(b) {
+        Some(ActionWords::Copy(second, third))
+    } else if !is_number(third) {
         None
     } else if same(b"cload", first) {
-        Some(ActionWords::Cload(a, b))
+        Some(ActionWords::Cload(second, third))
     } else if same(b"skipz", first) {
-        Some(ActionWords::Skipz(a, b))
+        Some(ActionWords::Skipz(second, third))
     } else if same(b"skipnz", first) {
-        Some(ActionWords::Skipnz(a, b))
+        Some(ActionWords::Skipnz(second, third))
     } else {
         None
     }
 }
 
-fn of_two<'a>(first: &[u8], a: &'a [u8], b: &'a [u8]) -> Option<ActionWords<'a>>
+fn of_two<'a>(first: &[u8], second: &'a [u8], third: &'a [u8]) -> Option<ActionWords<'a>>
     ensures { option_map spec.phrase_of result ≡ or_else
-        (first_to_read rows.register_rows (first.now ∷ a.now ∷ b.now ∷ []))
-        (first_to_read rows.other_rows (first.now ∷ a.now ∷ b.now ∷ [])) }
+        (first_to_read rows.register_rows (first.now ∷ second.now ∷ third.now ∷ []))
+        (first_to_read rows.other_rows (first.now ∷ second.now ∷ third.now ∷ [])) }
 {
-    match into_register(first, a, b) {
+    match into_register(first, second, third) {
         Some(action) => Some(action),
-        None => other_of_two(first, a, b),
+        None => other_of_two(first, second, third),
     }
 }
 
-fn of_three<'a>(first: &[u8], a: &'a [u8], b: &'a [u8], c: &'a [u8]) -> Option<ActionWords<'a>>
+fn of_three<'a>(
+    first: &[u8],
+    second: &'a [u8],
+    third: &'a [u8],
+    fourth: &'a [u8],
+) -> Option<ActionWords<'a>>
     ensures { option_map spec.phrase_of result
-        ≡ first_to_read rows.three_rows (first.now ∷ a.now ∷ b.now ∷ c.now ∷ []) }
+        ≡ first_to_read rows.three_rows (first.now ∷ second.now ∷ third.now ∷ fourth.now ∷ []) }
 {
     if same(b"get", first) {
-        Some(ActionWords::Get(a, b, c))
+        Some(ActionWords::Get(second, third, fourth))
     } else if same(b"put", first) {
-        Some(ActionWords::Put(a, b, c))
-    } else if !is_number(b) {
+        Some(ActionWords::Put(second, third, fourth))
+    } else if !is_number(third) {
         None
     } else if same(b"cswap", first) {
-        Some(ActionWords::Cswap(a, b, c))
+        Some(ActionWords::Cswap(second, third, fourth))
     } else if same(b"cadd", first) {
-        Some(ActionWords::Cadd(a, b, c))
+        Some(ActionWords::Cadd(second, third, fourth))
     } else {
         None
     }
@@ -120,26 +129,26 @@ fn of_three<'a>(first: &[u8], a: &'a [u8], b: &'a [u8], c: &'a [u8]) -> Option<A
 
 fn of_four<'a>(
     first: &[u8],
-    a: &'a [u8],
-    b: &'a [u8],
-    c: &'a [u8],
-    d: &'a [u8],
+    second: &'a [u8],
+    third: &'a [u8],
+    fourth: &'a [u8],
+    fifth: &'a [u8],
 ) -> Option<ActionWords<'a>>
     ensures { option_map spec.phrase_of result
-        ≡ first_to_read rows.four_rows (first.now ∷ a.now ∷ b.now ∷ c.now ∷ d.now ∷ []) }
+        ≡ first_to_read rows.four_rows (first.now ∷ second.now ∷ third.now ∷ fourth.now ∷ fifth.now ∷ []) }
 {
-    if is_number(b) && same(b"ccas", first) {
-        Some(ActionWords::Ccas(a, b, c, d))
+    if is_number(third) && same(b"ccas", first) {
+        Some(ActionWords::Ccas(second, third, fourth, fifth))
     } else {
         None
     }
 }
 
-fn of_one<'a>(first: &[u8], a: &'a [u8]) -> Option<ActionWords<'a>>
-    ensures { option_map spec.phrase_of result ≡ first_to_read rows.one_rows (first.now ∷ a.now ∷ []) }
+fn of_one<'a>(first: &[u8], second: &'a [u8]) -> Option<ActionWords<'a>>
+    ensures { option_map spec.phrase_of result ≡ first_to_read rows.one_rows (first.now ∷ second.now ∷ []) }
 {
     if same(b"return", first) {
-        Some(ActionWords::Return(a))
+        Some(ActionWords::Return(second))
     } else {
         None
     }
@@ -161,20 +170,20 @@ impl<'a> ActionWords<'a> {
     pub fn read(first: &[u8], words: &mut Words<'a>) -> Option<ActionWords<'a>>
         ensures { option_map spec.phrase_of result ≡ first_to_read actions (first.now ∷ words.old) }
     {
-        let Some(a) = words.next() else {
+        let Some(second) = words.next() else {
             return of_none(first);
         };
-        let Some(b) = words.next() else {
-            return of_one(first, a);
+        let Some(third) = words.next() else {
+            return of_one(first, second);
         };
-        let Some(c) = words.next() else {
-            return of_two(first, a, b);
+        let Some(fourth) = words.next() else {
+            return of_two(first, second, third);
         };
-        let Some(d) = words.next() else {
-            return of_three(first, a, b, c);
+        let Some(fifth) = words.next() else {
+            return of_three(first, second, third, fourth);
         };
         match words.next() {
-            None => of_four(first, a, b, c, d),
+            None => of_four(first, second, third, fourth, fifth),
             Some(_) => None,
         }
     }
@@ -285,31 +294,36 @@ impl ActionWords<'_> {
         ensures { result ≡ any_part (spec.is_broken rule.now) (spec.phrase_of self.now).parts }
     {
         match *self {
-            ActionWords::Set(r, v)
-            | ActionWords::Add(r, v)
-            | ActionWords::Sub(r, v)
-            | ActionWords::Mul(r, v)
-            | ActionWords::And(r, v)
-            | ActionWords::Or(r, v)
-            | ActionWords::Xor(r, v) => rule.at_register(r) || rule.at_value(v),
-            ActionWords::Len(r, b) | ActionWords::Sum(r, b) => rule.at_register(r)
-                || rule.at_block(b),
-            ActionWords::Get(r, b, v) => rule.at_register(r)
-                || rule.at_block(b)
-                || rule.at_value(v),
-            ActionWords::Put(b, v, w) => rule.at_block(b) || rule.at_value(v) || rule.at_value(w),
-            ActionWords::Fill(b, v) => rule.at_block(b) || rule.at_value(v),
-            ActionWords::Copy(b, c) => rule.at_block(b) || rule.at_block(c),
-            ActionWords::Cload(r, i) => rule.at_register(r) || rule.at_cell(i),
-            ActionWords::Cswap(r, i, v) | ActionWords::Cadd(r, i, v) => {
-                rule.at_register(r) || rule.at_cell(i) || rule.at_value(v)
+            ActionWords::Set(register, value)
+            | ActionWords::Add(register, value)
+            | ActionWords::Sub(register, value)
+            | ActionWords::Mul(register, value)
+            | ActionWords::And(register, value)
+            | ActionWords::Or(register, value)
+            | ActionWords::Xor(register, value) => rule.at_register(register)
+                || rule.at_value(value),
+            ActionWords::Len(register, block) | ActionWords::Sum(register, block) =>
+                rule.at_register(register) || rule.at_block(block),
+            ActionWords::Get(register, block, place) => rule.at_register(register)
+                || rule.at_block(block)
+                || rule.at_value(place),
+            ActionWords::Put(block, place, value) => rule.at_block(block)
+                || rule.at_value(place)
+                || rule.at_value(value),
+            ActionWords::Fill(block, value) => rule.at_block(block) || rule.at_value(value),
+            ActionWords::Copy(block, source) => rule.at_block(block) || rule.at_block(source),
+            ActionWords::Cload(register, cell) => rule.at_register(register) || rule.at_cell(cell),
+            ActionWords::Cswap(register, cell, value) | ActionWords::Cadd(register, cell, value) =>
+                { rule.at_register(register) || rule.at_cell(cell) || rule.at_value(value) }
+            ActionWords::Ccas(register, cell, expected, value) => {
+                rule.at_register(register)
+                    || rule.at_cell(cell)
+                    || rule.at_value(expected)
+                    || rule.at_value(value)
             }
-            ActionWords::Ccas(r, i, v, w) => {
-                rule.at_register(r) || rule.at_cell(i) || rule.at_value(v) || rule.at_value(w)
-            }
-            ActionWords::Skipz(r, n) | ActionWords::Skipnz(r, n) => rule.at_register(r)
-                || rule.at_count(n),
-            ActionWords::Return(v) => rule.at_value(v),
+            ActionWords::Skipz(register, count) | ActionWords::Skipnz(register, count) =>
+                rule.at_register(register) || rule.at_count(count),
+            ActionWords::Return(value) => rule.at_value(value),
             ActionWords::ReturnZero => false,
         }
     }
@@ -322,50 +336,89 @@ impl ActionWords<'_> {
         ensures { result ≡ (spec.phrase_of self.now).meaning names.now }
     {
         match *self {
-            ActionWords::Set(r, v) => Action::Set(register_or_zero(r), names.operand_or_zero(v)),
-            ActionWords::Add(r, v) => Action::Add(register_or_zero(r), names.operand_or_zero(v)),
-            ActionWords::Sub(r, v) => Action::Sub(register_or_zero(r), names.operand_or_zero(v)),
-            ActionWords::Mul(r, v) => Action::Mul(register_or_zero(r), names.operand_or_zero(v)),
-            ActionWords::And(r, v) => Action::And(register_or_zero(r), names.operand_or_zero(v)),
-            ActionWords::Or(r, v) => Action::Or(register_or_zero(r), names.operand_or_zero(v)),
-            ActionWords::Xor(r, v) => Action::Xor(register_or_zero(r), names.operand_or_zero(v)),
-            ActionWords::Len(r, b) => Action::Len(register_or_zero(r), names.block_or_zero(b)),
-            ActionWords::Sum(r, b) => Action::Sum(register_or_zero(r), names.block_or_zero(b)),
-            ActionWords::Get(r, b, v) => Action::Get(
-                register_or_zero(r),
-                names.block_or_zero(b),
-                names.operand_or_zero(v),
+            ActionWords::Set(register, value) => Action::Set(
+                register_or_zero(register),
+                names.operand_or_zero(value),
             ),
-            ActionWords::Put(b, v, w) => Action::Put(
-                names.block_or_zero(b),
-                names.operand_or_zero(v),
-                names.operand_or_zero(w),
+            ActionWords::Add(register, value) => Action::Add(
+                register_or_zero(register),
+                names.operand_or_zero(value),
             ),
-            ActionWords::Fill(b, v) => Action::Fill(
-                names.block_or_zero(b),
-                names.operand_or_zero(v),
+            ActionWords::Sub(register, value) => Action::Sub(
+                register_or_zero(register),
+                names.operand_or_zero(value),
             ),
-            ActionWords::Copy(b, c) => Action::Copy(names.block_or_zero(b), names.block_or_zero(c)),
-            ActionWords::Cload(r, i) => Action::Cload(register_or_zero(r), small_number(i)),
-            ActionWords::Cswap(r, i, v) => Action::Cswap(
-                register_or_zero(r),
-                small_number(i),
-                names.operand_or_zero(v),
+            ActionWords::Mul(register, value) => Action::Mul(
+                register_or_zero(register),
+                names.operand_or_zero(value),
             ),
-            ActionWords::Cadd(r, i, v) => Action::Cadd(
-                register_or_zero(r),
-                small_number(i),
-                names.operand_or_zero(v),
+            ActionWords::And(register, value) => Action::And(
+                register_or_zero(register),
+                names.operand_or_zero(value),
             ),
-            ActionWords::Ccas(r, i, v, w) => Action::Ccas(
-                register_or_zero(r),
-                small_number(i),
-                names.operand_or_zero(v),
-                names.operand_or_zero(w),
+            ActionWords::Or(register, value) => Action::Or(
+                register_or_zero(register),
+                names.operand_or_zero(value),
             ),
-            ActionWords::Skipz(r, n) => Action::Skipz(register_or_zero(r), small_number(n)),
-            ActionWords::Skipnz(r, n) => Action::Skipnz(register_or_zero(r), small_number(n)),
-            ActionWords::Return(v) => Action::Return(names.operand_or_zero(v)),
+            ActionWords::Xor(register, value) => Action::Xor(
+                register_or_zero(register),
+                names.operand_or_zero(value),
+            ),
+            ActionWords::Len(register, block) => Action::Len(
+                register_or_zero(register),
+                names.block_or_zero(block),
+            ),
+            ActionWords::Sum(register, block) => Action::Sum(
+                register_or_zero(register),
+                names.block_or_zero(block),
+            ),
+            ActionWords::Get(register, block, place) => Action::Get(
+                register_or_zero(register),
+                names.block_or_zero(block),
+                names.operand_or_zero(place),
+            ),
+            ActionWords::Put(block, place, value) => Action::Put(
+                names.block_or_zero(block),
+                names.operand_or_zero(place),
+                names.operand_or_zero(value),
+            ),
+            ActionWords::Fill(block, value) => Action::Fill(
+                names.block_or_zero(block),
+                names.operand_or_zero(value),
+            ),
+            ActionWords::Copy(block, source) => Action::Copy(
+                names.block_or_zero(block),
+                names.block_or_zero(source),
+            ),
+            ActionWords::Cload(register, cell) => Action::Cload(
+                register_or_zero(register),
+                small_number(cell),
+            ),
+            ActionWords::Cswap(register, cell, value) => Action::Cswap(
+                register_or_zero(register),
+                small_number(cell),
+                names.operand_or_zero(value),
+            ),
+            ActionWords::Cadd(register, cell, value) => Action::Cadd(
+                register_or_zero(register),
+                small_number(cell),
+                names.operand_or_zero(value),
+            ),
+            ActionWords::Ccas(register, cell, expected, value) => Action::Ccas(
+                register_or_zero(register),
+                small_number(cell),
+                names.operand_or_zero(expected),
+                names.operand_or_zero(value),
+            ),
+            ActionWords::Skipz(register, count) => Action::Skipz(
+                register_or_zero(register),
+                small_number(count),
+            ),
+            ActionWords::Skipnz(register, count) => Action::Skipnz(
+                register_or_zero(register),
+                small_number(count),
+            ),
+            ActionWords::Return(value) => Action::Return(names.operand_or_zero(value)),
             ActionWords::ReturnZero => Action::Return(Operand::Number(0)),
         }
     }

@@ -222,7 +222,7 @@ impl<'a> BodyNames<'a> {
             && (!self.is_known(word) || self.is_opaque_argument(param, word))
     }
 
-    /// Whether the word, for a parameter of an OCALL, fits for another reason not.
+    /// Whether the word, for a parameter of an OCALL, does not fit for another reason.
     pub fn is_wrong_pass(&self, param: &Param, word: &[u8]) -> bool
         ensures { result ≡ spec.is_wrong_pass self.now param.now word.now }
     {
