@@ -1,0 +1,6 @@
+pub mod Lists
+pub mod Candidates
+pub mod Steps
+pub mod Reading
+pub mod Importing
+pub mod Turns

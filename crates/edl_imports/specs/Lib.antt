@@ -1,0 +1,5 @@
+pub mod Search
+pub mod Offers
+pub mod Gathering
+pub mod Conflicts
+pub mod Causes

@@ -1,0 +1,51 @@
+//! Reads an interface file and all that it imports, each file once, and puts the declarations together.
+#![tactic(auto)]
+
+ghost use Rattle.std.specs.Prelude.{◌≡◌, ◌≤◌, [], length, IfOk, IfErr, IfSome, Ok};
+ghost use Rattle.sgx_base.specs.Stores.{AreOnlyRead};
+ghost use Rattle.edl_imports.specs.Causes.{IsFault};
+ghost use Rattle.edl_imports.specs.Gathering.{gathering};
+
+mod conflicts;
+mod faults;
+mod gathering;
+mod offers;
+mod search;
+
+use edl_grammar::Gathered;
+use faults::Stop;
+pub use faults::{ImportCause, ImportFault};
+use gathering::gather_root;
+use sgx_base::{Files, Word};
+use sqlite_items::Items;
+use std::alloc::Global;
+
+fn memory(alloc: Global) -> ImportFault
+    ensures { result ≡ record { name = []; cause = ImportCause.Memory } }
+{
+    ImportFault {
+        name: Items::new(alloc),
+        cause: ImportCause::Memory,
+    }
+}
+
+/// The root file and all that it imports, or the first fault. Each file is read once.
+pub fn gather<F: Files>(
+    alloc: Global,
+    files: &mut F,
+    root: &str,
+    paths: &[Word],
+) -> Result<Gathered, ImportFault>
+    ensures ok { IfOk result
+        (λ g. IfSome (F.state files.old).contents (λ store. gathering store paths.now root.now ≡ Ok g)) }
+    ensures err { IfErr result
+        (IsFault paths.now (F.state files.old) (F.state files.new) (λ store. gathering store paths.now root.now)) }
+    ensures few { IfOk result (λ g. length g.files ≤ 64) }
+    ensures kept { AreOnlyRead (F.state files.old) (F.state files.new) }
+{
+    match gather_root(alloc, files, root, paths) {
+        Ok(gathered) => Ok(gathered),
+        Err(Stop::Fault(fault)) => Err(fault),
+        Err(Stop::Memory) => Err(memory(alloc)),
+    }
+}
