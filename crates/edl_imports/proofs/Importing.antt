@@ -5,7 +5,6 @@ use Rattle.edl_grammar.specs.declared.Import.{Import}
 use Rattle.edl_grammar.specs.declared.NameAt.{NameAt}
 use Rattle.edl_grammar.specs.declared.SourceFile.{SourceFile}
 use Rattle.edl_imports.specs.declared.faults.ImportFault.{ImportFault}
-use Rattle.edl_imports.specs.declared.faults.ImportCause.{ImportCause}
 use Rattle.edl_imports.specs.declared.faults.ImportCause.TheVariants as causes
 use Rattle.edl_imports.specs.declared.faults.Stop.{Stop}
 use Rattle.edl_imports.specs.declared.faults.Stop.TheVariants as stops
@@ -13,7 +12,7 @@ use Rattle.edl_imports.specs.declared.gathering.Finished.{Finished}
 use Rattle.edl_imports.specs.declared.gathering.ImportAt.{ImportAt}
 use Rattle.edl_imports.specs.declared.gathering.Progress.{Progress}
 use Rattle.edl_imports.specs.declared.offers.Offer.{Offer}
-use Rattle.edl_imports.specs.Offers.{own, both, first_missing, with_names}
+use Rattle.edl_imports.specs.Offers.{own, first_missing, with_names}
 use Rattle.edl_imports.specs.Gathering.{Outcome, ◌>>=◌, IsImport, IsThere, IsFront, fault_at, offered_by, unless_missing, with_taken, taken_from, offer_of}
 use Rattle.edl_imports.specs.Causes.{IsStopOf}
 use Rattle.edl_imports.proofs.Steps.{IsPlain, ArePlain}

@@ -1,4 +1,3 @@
-pub mod Lists
 pub mod Candidates
 pub mod Steps
 pub mod Reading

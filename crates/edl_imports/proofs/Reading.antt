@@ -1,5 +1,5 @@
 -- One file: how its faults are told.
-use Rattle.std.proofs.Common.{ℕ, zero, suc, ◌≡◌, ◌⊎◌, inl, inr, ◌-◌, ◌≤◌, Bool, true, false, List, [], ◌∷◌, length, arith, Result, Ok, Err, refl, sym, ap, ◌∙◌, subst}
+use Rattle.std.proofs.Common.{ℕ, zero, suc, ◌≡◌, ◌⊎◌, inl, inr, ◌-◌, ◌≤◌, Bool, false, List, [], ◌∷◌, length, arith, Result, Ok, Err, refl, sym, ap, ◌∙◌, subst}
 use Rattle.sgx_base.specs.Outcome.{OrMemory}
 use Rattle.edl_lexer.specs.declared.Token.{Token}
 use Rattle.edl_lexer.specs.declared.LexFault.{LexFault}
@@ -12,17 +12,16 @@ use Rattle.edl_lexer.specs.declared.scan.Lexeme.{Lexeme}
 use Rattle.edl_lexer.specs.declared.scan.Lexeme.TheVariants.{Gap, Piece, No}
 use Rattle.edl_lexer.specs.Lexemes.{lexeme_after}
 use Rattle.edl_lexer.specs.Lexing.{lexing, tokens_from, max_tokens, mark_len, opening, step, token, is_number, fault_of, with_token}
-use Rattle.edl_lexer.proofs.Divided.{tokens_divided, fault_found, no_tokens, one_fault}
+use Rattle.edl_lexer.proofs.Divided.{tokens_divided, fault_found, one_fault}
 use Rattle.edl_grammar.specs.declared.EdlFile.{EdlFile}
 use Rattle.edl_grammar.specs.declared.ParseFault.{ParseFault}
 use Rattle.edl_grammar.specs.Parser.{parsing}
 use Rattle.edl_imports.specs.declared.faults.ImportFault.{ImportFault}
-use Rattle.edl_imports.specs.declared.faults.ImportCause.{ImportCause}
 use Rattle.edl_imports.specs.declared.faults.ImportCause.TheVariants as causes
 use Rattle.edl_imports.specs.declared.faults.Stop.{Stop}
 use Rattle.edl_imports.specs.declared.faults.Stop.TheVariants as stops
 use Rattle.edl_imports.specs.declared.search.NewFile.{NewFile}
-use Rattle.edl_imports.specs.Gathering.{Outcome, read_tree, read_tokens, read_source}
+use Rattle.edl_imports.specs.Gathering.{read_tree, read_tokens, read_source}
 use Rattle.edl_imports.specs.Causes.{IsStopOf}
 use Rattle.edl_imports.proofs.Steps.{IsPlain, ArePlain}
 

@@ -1,14 +1,13 @@
 -- Steps that read files, and what stops them.
-use Rattle.std.proofs.Common.{ℕ, ◌≡◌, ◌⊎◌, inl, inr, ◌+◌, ◌<◌, ◌≤◌, List, [], Option, Some, None, Result, Ok, Err, refl, sym, ap, ◌∙◌, subst, arith}
-use Rattle.std.specs.Prelude.{IfSome, IfOk, IfErr}
+use Rattle.std.proofs.Common.{ℕ, ◌≡◌, inl, inr, ◌≤◌, List, Option, Some, None, Err, refl, ◌∙◌, subst, arith}
+use Rattle.std.specs.Prelude.{IfSome}
 use Rattle.sgx_base.specs.Counts.{Rose}
-use Rattle.sgx_base.specs.Stores.{Store, FilesState, AreOnlyRead, Missed}
+use Rattle.sgx_base.specs.Stores.{Store, FilesState, AreOnlyRead}
 use Rattle.edl_imports.specs.declared.faults.ImportFault.{ImportFault}
 use Rattle.edl_imports.specs.declared.faults.ImportCause.{ImportCause}
 use Rattle.edl_imports.specs.declared.faults.ImportCause.TheVariants as causes
 use Rattle.edl_imports.specs.declared.faults.Stop.{Stop}
 use Rattle.edl_imports.specs.declared.faults.Stop.TheVariants as stops
-use Rattle.edl_imports.specs.Search.{candidates}
 use Rattle.edl_imports.specs.Gathering.{Outcome}
 use Rattle.edl_imports.specs.Causes.{IsStated, IsBy, IsStop, IsStopOf}
 

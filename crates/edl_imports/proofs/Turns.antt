@@ -1,5 +1,5 @@
 -- A file and its imports, one after another.
-use Rattle.std.proofs.Common.{ℕ, zero, suc, ◌≡◌, ◌+◌, ◌-◌, ◌<◌, ◌≤◌, List, [], ◌∷◌, ◌++◌, length, drop, Option, Some, None, Result, Ok, Err, refl, sym, ap, ◌∙◌, subst, arith}
+use Rattle.std.proofs.Common.{ℕ, suc, ◌≡◌, ◌+◌, ◌≤◌, List, length, drop, Option, Some, None, Result, Ok, Err, sym, ap, ◌∙◌, subst}
 use Rattle.std.specs.Prelude.{IfSome, IfOk, IfErr, slice_get}
 use Rattle.std.proofs.lemmas.List.{drop_all}
 use Rattle.sgx_base.specs.Stores.{Store, FilesState, AreOnlyRead}
@@ -10,18 +10,16 @@ use Rattle.edl_grammar.specs.declared.SourceFile.{SourceFile}
 use Rattle.edl_imports.specs.declared.faults.ImportFault.{ImportFault}
 use Rattle.edl_imports.specs.declared.faults.ImportCause.TheVariants as causes
 use Rattle.edl_imports.specs.declared.faults.Stop.{Stop}
-use Rattle.edl_imports.specs.declared.faults.Stop.TheVariants as stops
-use Rattle.edl_imports.specs.declared.gathering.ImportAt.{ImportAt}
 use Rattle.edl_imports.specs.declared.gathering.Progress.{Progress}
 use Rattle.edl_imports.specs.declared.offers.Offer.{Offer}
 use Rattle.edl_imports.specs.declared.search.Found.{Found}
 use Rattle.edl_imports.specs.declared.search.Found.TheVariants.{Known, New}
 use Rattle.edl_imports.specs.declared.search.NewFile.{NewFile}
 use Rattle.edl_imports.specs.Offers.{own}
-use Rattle.edl_imports.specs.Gathering.{Outcome, ◌>>=◌, Gather, wanted, reached, imported, taken_from, import_all, gather_within, read_source, begun, finished, max_files, no_files, root_bytes, name_at, tokens_at, gathered, all_of, unless_conflict, gathering}
+use Rattle.edl_imports.specs.Gathering.{Outcome, ◌>>=◌, wanted, reached, imported, taken_from, import_all, gather_within, read_source, begun, finished, max_files, no_files, root_bytes, name_at, tokens_at, gathered, all_of, unless_conflict, gathering}
 use Rattle.edl_imports.specs.Causes.{IsStop, IsStopOf}
 use Rattle.edl_imports.specs.Conflicts.{Place, first_conflict}
-use Rattle.edl_imports.proofs.Steps.{IsPlain, ArePlain, always, one, both, three, unread, read_twice, told_before, stops_as, stops_plainly}
+use Rattle.edl_imports.proofs.Steps.{IsPlain, ArePlain, always, one, both, unread, told_before, stops_as, stops_plainly}
 use Rattle.edl_imports.proofs.Reading.{read_plain}
 use Rattle.edl_imports.proofs.Importing.{drop_there, taken_plain}
 

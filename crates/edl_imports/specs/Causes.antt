@@ -1,5 +1,5 @@
 -- Why a step of the gathering fails.
-use Rattle.std.specs.Prelude.{ℕ, ◌≡◌, ◌⊎◌, List, [], Option, None, IfSome, Result, Err}
+use Rattle.std.specs.Prelude.{ℕ, ◌≡◌, ◌⊎◌, List, [], Option, None, IfSome, Err}
 use Rattle.sgx_base.specs.Stores.{Store, FilesState, ReadFailed, Missed}
 use Rattle.edl_imports.specs.declared.faults.ImportFault.{ImportFault}
 use Rattle.edl_imports.specs.declared.faults.ImportCause.{ImportCause}

@@ -6,7 +6,6 @@ use Rattle.edl_grammar.specs.declared.SourceFile.{SourceFile}
 use Rattle.edl_grammar.specs.declared.Gathered.{Gathered}
 use Rattle.edl_grammar.specs.declared.Pick.{Pick}
 use Rattle.edl_grammar.specs.declared.TypeDecl.{TypeDecl}
-use Rattle.edl_grammar.specs.declared.FuncDecl.{FuncDecl}
 use Rattle.edl_grammar.specs.Files.{name_of, token_of}
 use Rattle.edl_imports.specs.Offers.{picked}
 use Rattle.edl_imports.specs.declared.conflicts.Place.{Place as PlaceOf}

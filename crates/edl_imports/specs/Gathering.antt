@@ -1,5 +1,5 @@
 -- A file and all that it imports, each file once, and the functions that the interface takes.
-use Rattle.std.specs.Prelude.{ℕ, zero, suc, ◌≡◌, ◌<◌, Bool, true, false, if◌then◌else◌, ◌==◌, List, [], ◌∷◌, ◌++◌, find, length, slice_get, Option, Some, None, Result, Ok, Err}
+use Rattle.std.specs.Prelude.{ℕ, zero, suc, ◌≡◌, ◌<◌, if◌then◌else◌, ◌==◌, List, [], ◌∷◌, ◌++◌, find, length, slice_get, Option, Some, None, Result, Ok, Err}
 use Rattle.sgx_base.specs.declared.Fault.{Fault}
 use Rattle.sgx_base.specs.Stores.{Store}
 use Rattle.edl_lexer.specs.declared.Token.{Token}

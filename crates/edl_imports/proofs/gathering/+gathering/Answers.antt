@@ -1,9 +1,8 @@
-use Rattle.std.proofs.Common.{ℕ, ◌≡◌, ◌∙◌, ◌-◌, ◌++◌, ◌∷◌, [], List, suc, sym, ap, arith, rules}
-use Rattle.std.specs.Prelude.{slice_get, Some}
+use Rattle.std.proofs.Common.{◌≡◌, ◌∙◌, ◌-◌, List, suc, ap, arith, rules}
+use Rattle.std.specs.Prelude.{slice_get}
 use Rattle.edl_grammar.specs.declared.SourceFile.{SourceFile}
 use Rattle.edl_grammar.specs.declared.Import.{Import}
 use Rattle.edl_imports.specs.declared.gathering.Finished.{Finished}
-use Rattle.edl_imports.specs.declared.gathering.Progress.{Progress}
 use Rattle.edl_imports.specs.Gathering.{IsImport}
 use Rattle.edl_imports.proofs.Steps.{read_twice}
 use Rattle.edl_imports.proofs.Importing.{there_pushed, front_then, front_more, IsBegun, import_there, import_here, import_still}

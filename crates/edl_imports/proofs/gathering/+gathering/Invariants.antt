@@ -1,4 +1,4 @@
-use Rattle.std.proofs.Common.{◌+◌, ◌*◌, ◌≡◌, ◌≤◌, ℕ, drop, length}
+use Rattle.std.proofs.Common.{◌+◌, ◌*◌, ◌≡◌, ◌≤◌, drop, length}
 use Rattle.std.specs.Prelude.{IfSome, Some, slice_get}
 use Rattle.sgx_base.specs.Stores.{AreOnlyRead}
 use Rattle.edl_grammar.specs.declared.SourceFile.{SourceFile}
