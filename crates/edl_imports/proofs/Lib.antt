@@ -3,3 +3,4 @@ pub mod Steps
 pub mod Reading
 pub mod Importing
 pub mod Turns
+pub mod Apart

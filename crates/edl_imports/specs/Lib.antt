@@ -3,3 +3,4 @@ pub mod Offers
 pub mod Gathering
 pub mod Conflicts
 pub mod Causes
+pub mod Apart

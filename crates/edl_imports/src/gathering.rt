@@ -1,6 +1,6 @@
 //! Files and their imports, each file once.
 
-ghost use Rattle.std.specs.Prelude.{◌≡◌, ◌≤◌, ◌<◌, ◌+◌, ◌==◌, ℕ, List, Some, Ok, find, length, slice_get, option_map, IfOk, IfErr, IfSome, OnOk};
+ghost use Rattle.std.specs.Prelude.{◌≡◌, ◌≤◌, ◌<◌, ◌+◌, ◌==◌, ℕ, List, All, Some, Ok, find, length, slice_get, option_map, IfOk, IfErr, IfSome, OnOk};
 ghost use Rattle.sgx_base.specs.Outcome.{OrMemory};
 ghost use Rattle.sgx_base.specs.Stores.{AreOnlyRead, max_file_size};
 ghost use Rattle.edl_lexer.specs.Bounds.{LieIn};
@@ -9,6 +9,7 @@ ghost use Rattle.edl_grammar.specs.Files as grammar;
 ghost use Rattle.edl_grammar.specs.Parser.{parsing};
 ghost use Rattle.edl_grammar.specs.declared.SourceFile.{SourceFile as ASourceFile};
 ghost use Rattle.edl_grammar.specs.declared.Import.{Import as AnImport};
+ghost use Rattle.edl_imports.specs.Apart.{IsSource, TypesAreApart};
 ghost use Rattle.edl_imports.specs.Causes.{IsStop, IsStopOf, IsMissing};
 ghost use Rattle.edl_imports.specs.Conflicts.{first_conflict as conflict_in};
 ghost use Rattle.edl_imports.specs.Search.{IsSmall};
@@ -369,6 +370,7 @@ fn reached<F: Files>(
         i)) }
     ensures front { OnOk result (IsFront progress.old.files progress.new.files) }
     ensures few { OnOk result (length progress.new.files ≤ 64) }
+    ensures read { OnOk result (All IsSource progress.old.files → All IsSource progress.new.files) }
     ensures kept { AreOnlyRead (F.state files.old) (F.state files.new) }
 {
     match wanted_at(alloc, files, paths, progress.files.as_slice(), at)? {
@@ -405,6 +407,7 @@ fn import_all<F: Files>(
         (offers.own number source.tree) source.tree.imports)) }
     ensures front { OnOk result (IsFront progress.old.files progress.new.files) }
     ensures few { OnOk result (length progress.new.files ≤ 64) }
+    ensures read { OnOk result (All IsSource progress.old.files → All IsSource progress.new.files) }
     ensures kept { AreOnlyRead (F.state files.old) (F.state files.new) }
 {
     let (count, mut offer) = begin(alloc, progress.files.as_slice(), number)?;
@@ -438,6 +441,7 @@ fn gather_file<F: Files>(
         (λ store. spec.gather_within store paths.now depth progress.old new)) }
     ensures front { OnOk result (IsFront progress.old.files progress.new.files) }
     ensures few { OnOk result (length progress.new.files ≤ 64) }
+    ensures read { OnOk result (All IsSource progress.old.files → All IsSource progress.new.files) }
     ensures kept { AreOnlyRead (F.state files.old) (F.state files.new) }
 {
     let number = progress.files.len() as u32;
@@ -496,6 +500,7 @@ fn unless_conflict(alloc: Global, gathered: Gathered) -> Result<Gathered, Stop>
     requires { length gathered.files ≤ 64 }
     ensures ok { IfOk result (λ g. spec.unless_conflict gathered (conflict_in gathered) ≡ Ok g) }
     ensures same { IfOk result (λ g. g ≡ gathered) }
+    ensures apart { IfOk result TypesAreApart }
     ensures err { IfErr result (IsStopOf (spec.unless_conflict gathered (conflict_in gathered))) }
 {
     match first_conflict(alloc, &gathered)? {
@@ -514,6 +519,7 @@ fn gather_all<F: Files>(
     ensures ok { IfOk result (λ g. IfSome (F.state files.old).contents
         (λ store. spec.all_of store paths.now root.now ≡ Ok g)) }
     ensures few { IfOk result (λ g. length g.files ≤ 64) }
+    ensures read { IfOk result (λ g. All IsSource g.files) }
     ensures err { IfErr result (IsStop paths.now (F.state files.old) (F.state files.new)
         (λ store. spec.all_of store paths.now root.now)) }
     ensures kept { AreOnlyRead (F.state files.old) (F.state files.new) }
@@ -546,6 +552,8 @@ pub(crate) fn gather_root<F: Files>(
     ensures ok { IfOk result (λ g. IfSome (F.state files.old).contents
         (λ store. spec.gathering store paths.now root.now ≡ Ok g)) }
     ensures few { IfOk result (λ g. length g.files ≤ 64) }
+    ensures read { IfOk result (λ g. All IsSource g.files) }
+    ensures apart { IfOk result TypesAreApart }
     ensures err { IfErr result (IsStop paths.now (F.state files.old) (F.state files.new)
         (λ store. spec.gathering store paths.now root.now)) }
     ensures kept { AreOnlyRead (F.state files.old) (F.state files.new) }

@@ -1,8 +1,9 @@
 //! Reads an interface file and all that it imports, each file once, and puts the declarations together.
 #![tactic(auto)]
 
-ghost use Rattle.std.specs.Prelude.{◌≡◌, ◌≤◌, [], length, IfOk, IfErr, IfSome, Ok};
+ghost use Rattle.std.specs.Prelude.{◌≡◌, ◌≤◌, [], All, length, IfOk, IfErr, IfSome, Ok};
 ghost use Rattle.sgx_base.specs.Stores.{AreOnlyRead};
+ghost use Rattle.edl_imports.specs.Apart.{IsSource, TypesAreApart};
 ghost use Rattle.edl_imports.specs.Causes.{IsFault};
 ghost use Rattle.edl_imports.specs.Gathering.{gathering};
 
@@ -41,6 +42,8 @@ pub fn gather<F: Files>(
     ensures err { IfErr result
         (IsFault paths.now (F.state files.old) (F.state files.new) (λ store. gathering store paths.now root.now)) }
     ensures few { IfOk result (λ g. length g.files ≤ 64) }
+    ensures read { IfOk result (λ g. All IsSource g.files) }
+    ensures apart { IfOk result TypesAreApart }
     ensures kept { AreOnlyRead (F.state files.old) (F.state files.new) }
 {
     match gather_root(alloc, files, root, paths) {

@@ -4,6 +4,7 @@ use Rattle.edl_grammar.specs.declared.SourceFile.{SourceFile}
 use Rattle.edl_grammar.specs.declared.Import.{Import}
 use Rattle.edl_imports.specs.declared.gathering.Finished.{Finished}
 use Rattle.edl_imports.specs.Gathering.{IsImport}
+use Rattle.edl_imports.proofs.Apart.{source_read, read_behind}
 use Rattle.edl_imports.proofs.Steps.{read_twice}
 use Rattle.edl_imports.proofs.Importing.{there_pushed, front_then, front_more, IsBegun, import_there, import_here, import_still}
 use Rattle.edl_imports.proofs.Turns.{file_unread, file_gathered, file_stops, unwanted, known_reached, new_stops, new_reached, turn_stops, turn_refused, turned, all_turned}
@@ -31,6 +32,11 @@ gather_file-returns-clause-err g t c =
     (g.F.Files.state c.args.files.now) (g.F.Files.state c.import_all.new.files) c.in_ok-source.source (record { files = c.push.new.self; finished = c.args.progress.now.finished }) c.import_all.result
     deep c.len-number.ensures c.in_ok-source.ensures.ok (ap (λ (fs : List SourceFile). record { files = fs; finished = c.args.progress.now.finished }) c.in_ok-push.ensures.ok)
     (c.import_all.ensures.err c.in_ok-source.source (there_pushed c.args.progress.now.files c.push.new.self c.in_ok-source.source c.len-number.result c.in_ok-push.ensures.ok c.len-number.ensures))
+
+pub gather_file-returns-clause-read : goal.gather_file-returns-clause-read
+gather_file-returns-clause-read g t c =
+    read_behind c.args.progress.now.files c.push.new.self c.import_all.new.progress.files c.in_ok-source.source c.import_all.result c.in_ok-push.ensures.ok
+    (source_read c.len-number.result c.args.new c.in_ok-source.source c.in_ok-source.ensures.ok) c.import_all.ensures.read
 
 pub import_all-reached-requires : goal.import_all-reached-requires
 import_all-reached-requires g t c κs within =
@@ -77,6 +83,7 @@ import_all-loop-index-preserved g t c = record {
   kept = read_twice (g.F.Files.state c.args.files.now) (g.F.Files.state c.loop-index.files) (g.F.Files.state c.reached.new.files) c.loop-index.invariant.kept c.in_ok-file.ensures.kept;
   front = front_then c.args.progress.now.files c.loop-index.progress.files c.reached.new.progress.files c.loop-index.invariant.front c.in_ok-file.ensures.front;
   few = c.in_ok-file.ensures.few;
+  read = λ h. c.in_ok-file.ensures.read (c.loop-index.invariant.read h);
   same = λ source is.
       let begun = c.in_ok-count.ensures source (ap (λ (fs : List SourceFile). slice_get fs c.args.number) c.as_slice.ensures ∙ is) in
       let here : (i : Import) × IsImport c.loop-index.progress.files (record { file = c.args.number; index = c.loop-index.index }) source i =
