@@ -4,3 +4,4 @@ pub mod Gathering
 pub mod Conflicts
 pub mod Causes
 pub mod Apart
+pub mod Examples

@@ -5,6 +5,7 @@ ghost use Rattle.std.specs.Prelude.{◌≡◌, ◌≤◌, [], All, length, IfOk,
 ghost use Rattle.sgx_base.specs.Stores.{AreOnlyRead};
 ghost use Rattle.edl_imports.specs.Apart.{IsSource, TypesAreApart};
 ghost use Rattle.edl_imports.specs.Causes.{IsFault};
+ghost use Rattle.edl_imports.specs.Examples.{Examples};
 ghost use Rattle.edl_imports.specs.Gathering.{gathering};
 
 mod conflicts;
@@ -52,3 +53,8 @@ pub fn gather<F: Files>(
         Err(Stop::Memory) => Err(memory(alloc)),
     }
 }
+
+/// Short files that import one another, and what is gathered of them.
+pub fn examples()
+    ensures { Examples }
+{}
