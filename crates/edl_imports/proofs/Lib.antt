@@ -4,3 +4,5 @@ pub mod Reading
 pub mod Importing
 pub mod Turns
 pub mod Apart
+pub mod AloneLaws
+pub mod ReachLaws

@@ -5,3 +5,4 @@ pub mod Conflicts
 pub mod Causes
 pub mod Apart
 pub mod Examples
+pub mod Laws

@@ -7,6 +7,7 @@ ghost use Rattle.edl_imports.specs.Apart.{IsSource, TypesAreApart};
 ghost use Rattle.edl_imports.specs.Causes.{IsFault};
 ghost use Rattle.edl_imports.specs.Examples.{Examples};
 ghost use Rattle.edl_imports.specs.Gathering.{gathering};
+ghost use Rattle.edl_imports.specs.Laws.{IsAlone, OwnImportIsCycle, EachIsReached};
 
 mod conflicts;
 mod faults;
@@ -57,4 +58,19 @@ pub fn gather<F: Files>(
 /// Short files that import one another, and what is gathered of them.
 pub fn examples()
     ensures { Examples }
+{}
+
+/// Without imports it is the root alone, with all its functions.
+pub fn alone_law()
+    ensures { IsAlone }
+{}
+
+/// A root that imports itself first closes a cycle, whatever other files there are.
+pub fn own_import_law()
+    ensures { OwnImportIsCycle }
+{}
+
+/// Every file that is gathered is reached from the root by imports.
+pub fn reached_law()
+    ensures { EachIsReached }
 {}
