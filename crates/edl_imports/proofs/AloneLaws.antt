@@ -1,34 +1,29 @@
 -- A root without imports, and one that imports itself.
-use Rattle.std.proofs.Common.{ℕ, zero, suc, ◌≡◌, ◌+◌, ◌<◌, ◌≤◌, Bool, true, false, ◌&&◌, ◌||◌, nat_lt, List, [], ◌∷◌, ◌++◌, map, length, Option, Some, None, Result, Ok, Err, refl, sym, ap, ◌∙◌, subst, arith, cond}
-use Rattle.std.specs.Prelude.{All, filter_map, option_map, fold, position, if◌then◌else◌}
-use Rattle.std.specs.List.{list_any, cons_option, range_with_len, position_or_len}
+use Rattle.std.proofs.Common.{ℕ, ◌≡◌, Bool, true, false, ◌&&◌, ◌||◌, nat_lt, List, [], ◌∷◌, ◌++◌, map, length, Option, Some, None, Ok, refl, sym, ap, ◌∙◌, subst, arith, cond}
+use Rattle.std.specs.Prelude.{filter_map, option_map, if◌then◌else◌}
+use Rattle.std.specs.List.{cons_option, range_with_len, position_or_len}
 use Rattle.std.specs.Option.{option_or}
 use Rattle.std.specs.Str.{bytes_eq, IsUtf8}
-use Rattle.std.proofs.lemmas.Bool.{false_from_ne_true}
 use Rattle.std.proofs.lemmas.Bool.Decides.{nat_tests}
-use Rattle.std.proofs.lemmas.List.Elements.{All-nil, All-cons, All-append, All-map}
 use Rattle.std.proofs.lemmas.Slice.Eq.{bytes_eq-Decides}
 use Rattle.sgx_base.specs.Stores.{Store}
 use Rattle.edl_grammar.specs.declared.FuncDecl.{FuncDecl}
 use Rattle.edl_grammar.specs.declared.Gathered.{Gathered}
 use Rattle.edl_grammar.specs.declared.Import.{Import}
-use Rattle.edl_grammar.specs.declared.Pick.{Pick}
 use Rattle.edl_grammar.specs.declared.SourceFile.{SourceFile}
 use Rattle.edl_grammar.specs.declared.TypeDecl.{TypeDecl}
 use Rattle.edl_grammar.specs.Files.{token_of, name_of}
 use Rattle.edl_imports.specs.declared.conflicts.Known.{Known}
 use Rattle.edl_imports.specs.declared.faults.ImportCause.TheVariants as causes
-use Rattle.edl_imports.specs.declared.faults.ImportFault.{ImportFault}
 use Rattle.edl_imports.specs.declared.gathering.Progress.{Progress}
 use Rattle.edl_imports.specs.declared.offers.Offer.{Offer}
 use Rattle.edl_imports.specs.declared.search.Found.{Found}
-use Rattle.edl_imports.specs.declared.search.Found.TheVariants.{Known as is_known, New}
-use Rattle.edl_imports.specs.declared.search.NewFile.{NewFile}
-use Rattle.edl_imports.specs.Search.{candidates, in_directories, file_of, first_file, number_of, known_or_new}
-use Rattle.edl_imports.specs.Offers.{own, picks, picked}
-use Rattle.edl_imports.specs.Conflicts.{Place, type_known, types_from, types_known, function_known, functions_of, functions_known, is_second, earlier, first_second, first_conflict}
-use Rattle.edl_imports.specs.Gathering.{Outcome, ◌>>=◌, fail, fault_at, admitted, reached, imported, taken_from, import_all, gather_within, read_tokens, read_tree, read_source, begun, no_files, root_bytes, gathered, all_of, unless_conflict, gathering}
-use Rattle.edl_imports.specs.Laws.{IsRootFile, alone, IsAlone, OwnImportIsCycle}
+use Rattle.edl_imports.specs.declared.search.Found.TheVariants.{Known as is_known}
+use Rattle.edl_imports.specs.Search.{candidates, in_directories, first_file, number_of, known_or_new}
+use Rattle.edl_imports.specs.Offers.{own, picked}
+use Rattle.edl_imports.specs.Conflicts.{Place, type_known, types_known, functions_of, functions_known, is_second, earlier, first_second, first_conflict}
+use Rattle.edl_imports.specs.Gathering.{Outcome, ◌>>=◌, fail, fault_at, admitted, reached, taken_from, import_all, gather_within, read_tokens, read_tree, read_source, begun, no_files, root_bytes, gathered, all_of, unless_conflict, gathering}
+use Rattle.edl_imports.specs.Laws.{IsRootFile, alone}
 use Rattle.edl_imports.proofs.Candidates.{candidates_some}
 
 -- ---- one file has no conflict

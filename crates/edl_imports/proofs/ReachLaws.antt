@@ -1,6 +1,6 @@
 -- Every file that is gathered is reached from the root by imports.
-use Rattle.std.proofs.Common.{ℕ, zero, suc, ◌≡◌, ◌⊎◌, inl, inr, ◌+◌, ◌<◌, ◌≤◌, ◌==◌, Bool, true, false, List, [], ◌∷◌, ◌++◌, length, Option, Some, None, Result, Ok, Err, refl, sym, ap, ◌∙◌, subst, arith, length-append}
-use Rattle.std.specs.Prelude.{Contains, slice_get, option_map, if◌then◌else◌}
+use Rattle.std.proofs.Common.{ℕ, zero, suc, ◌≡◌, ◌⊎◌, inl, inr, ◌<◌, ◌==◌, Bool, true, false, List, [], ◌∷◌, ◌++◌, length, Option, Some, None, Result, Ok, Err, refl, sym, ap, ◌∙◌, subst, arith}
+use Rattle.std.specs.Prelude.{Contains, slice_get}
 use Rattle.std.specs.Option.{option_or}
 use Rattle.std.proofs.lemmas.List.{append-nil}
 use Rattle.sgx_base.specs.Stores.{Store}
@@ -22,7 +22,7 @@ use Rattle.edl_imports.specs.declared.search.NewFile.{NewFile}
 use Rattle.edl_imports.specs.Search.{candidates, file_of, first_file, number_of, known_or_new}
 use Rattle.edl_imports.specs.Offers.{own}
 use Rattle.edl_imports.specs.Conflicts.{Place, first_conflict}
-use Rattle.edl_imports.specs.Gathering.{Outcome, ◌>>=◌, fail, fault_at, Gather, IsFront, admitted, wanted, reached, imported, taken_from, import_all, gather_within, read_tree, read_tokens, read_source, begun, finished, no_files, max_files, root_bytes, gathered, all_of, unless_conflict, gathering}
+use Rattle.edl_imports.specs.Gathering.{Outcome, ◌>>=◌, fail, fault_at, Gather, IsFront, admitted, wanted, reached, imported, taken_from, import_all, gather_within, read_tree, read_tokens, read_source, begun, finished, no_files, max_files, root_bytes, gathered, all_of, unless_conflict}
 use Rattle.edl_imports.specs.Laws.{IsNamed, AreReached, EachIsReached}
 use Rattle.edl_imports.proofs.Importing.{in_front, front_then, there_pushed}
 

@@ -1,5 +1,5 @@
 -- Short files that import one another, and what is gathered of them.
-use Rattle.std.specs.Prelude.{◌≡◌, ℕ, List, [], ◌∷◌, Option, Some, None, Result, Ok, Err, if◌then◌else◌, codes}
+use Rattle.std.specs.Prelude.{◌≡◌, ℕ, List, [], ◌∷◌, Some, None, Ok, Err, if◌then◌else◌, codes}
 use Rattle.std.specs.Str.{bytes_eq}
 use Rattle.sgx_base.specs.Stores.{Store}
 use Rattle.sgx_base.specs.declared.Fault.{Fault}

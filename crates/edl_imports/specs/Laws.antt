@@ -2,19 +2,15 @@
 use Rattle.std.specs.Prelude.{ℕ, ◌≡◌, ◌<◌, ◌⊎◌, List, [], ◌∷◌, length, Some, Ok, Contains, slice_get}
 use Rattle.std.specs.Str.{IsUtf8}
 use Rattle.sgx_base.specs.Stores.{Store}
-use Rattle.edl_lexer.specs.declared.Token.{Token}
 use Rattle.edl_lexer.specs.Lexing.{lexing}
-use Rattle.edl_grammar.specs.declared.EdlFile.{EdlFile}
 use Rattle.edl_grammar.specs.declared.Gathered.{Gathered}
 use Rattle.edl_grammar.specs.declared.Import.{Import}
 use Rattle.edl_grammar.specs.declared.SourceFile.{SourceFile}
 use Rattle.edl_grammar.specs.Parser.{parsing}
 use Rattle.edl_imports.specs.declared.faults.ImportCause.TheVariants as causes
-use Rattle.edl_imports.specs.declared.gathering.Progress.{Progress}
-use Rattle.edl_imports.specs.declared.offers.Offer.{Offer}
 use Rattle.edl_imports.specs.Search.{candidates}
 use Rattle.edl_imports.specs.Offers.{picks}
-use Rattle.edl_imports.specs.Gathering.{fail, fault_at, offer_of, taken_from, gathering}
+use Rattle.edl_imports.specs.Gathering.{fail, fault_at, gathering}
 
 -- the store has a root file of these tokens and this tree
 pub record IsRootFile (store : Store) (root : List ℕ) (source : SourceFile) : Type 0 where

@@ -1,6 +1,7 @@
 //! Files and their imports, each file once.
 
-ghost use Rattle.std.specs.Prelude.{◌≡◌, ◌≤◌, ◌<◌, ◌+◌, ◌==◌, ℕ, List, All, Some, Ok, find, length, slice_get, option_map, IfOk, IfErr, IfSome, OnOk};
+ghost use Rattle.std.specs.Prelude.{◌≡◌, ◌≤◌, ◌<◌, ◌+◌, ◌==◌, ℕ, List, All, Some, Ok, find, length, slice_get};
+ghost use Rattle.std.specs.Prelude.{option_map, IfOk, IfErr, IfSome, OnOk};
 ghost use Rattle.sgx_base.specs.Outcome.{OrMemory};
 ghost use Rattle.sgx_base.specs.Stores.{AreOnlyRead, max_file_size};
 ghost use Rattle.edl_lexer.specs.Bounds.{LieIn};
