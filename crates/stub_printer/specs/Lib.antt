@@ -1,0 +1,4 @@
+pub mod Template
+pub mod Declarations
+pub mod Products
+pub mod Bridges
