@@ -1,0 +1,8 @@
+use Rattle.std.proofs.Common.{◌≡◌, ◌++◌, map, take}
+use Rattle.std.specs.Prelude.{flat_map}
+use Rattle.stub_printer.specs.Stubs.{call_row}
+use Rattle.stub_printer.proofs.trusted_source.put_call_rows.Given as goal
+
+abbrev pub invariant-loop-f : goal.invariant-loop-f
+invariant-loop-f l =
+    l.out.items ≡ l.initial.out.items ++ flat_map call_row (map (λ f. f.now) (take l.f-index l.functions))

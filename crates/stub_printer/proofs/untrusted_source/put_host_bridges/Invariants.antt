@@ -1,0 +1,8 @@
+use Rattle.std.proofs.Common.{◌≡◌, ◌++◌, map, take}
+use Rattle.std.specs.Prelude.{flat_map}
+use Rattle.stub_printer.specs.Stubs.{host_bridge}
+use Rattle.stub_printer.proofs.untrusted_source.put_host_bridges.Given as goal
+
+abbrev pub invariant-loop-f : goal.invariant-loop-f
+invariant-loop-f l =
+    l.out.items ≡ l.initial.out.items ++ flat_map (host_bridge l.options) (map (λ f. f.now) (take l.f-index l.functions))
