@@ -1,3 +1,4 @@
 mod Joining
 mod ProductLaws
+mod Rows
 mod TableLaws

@@ -1,5 +1,5 @@
 -- The lists that the tables of an interface have.
-use Rattle.std.proofs.Common.{ℕ, zero, suc, ◌<◌, ◌≤◌, ◌≡◌, Bool, true, false, List, [], ◌∷◌, length, map, Option, Some, None, option_map, is_some, IsSome, slice_get, refl, subst, sym, arith}
+use Rattle.std.proofs.Common.{ℕ, zero, suc, ◌<◌, ◌≤◌, ◌≡◌, Bool, true, false, List, [], ◌∷◌, length, map, None, option_map, is_some, IsSome, slice_get, refl, subst, sym, arith}
 use Rattle.edl_interface.specs.declared.Interface.{Interface}
 use Rattle.bridge_program.specs.declared.bridges.Bridges.{Bridges}
 use Rattle.bridge_program.specs.Tables.{bridges_of, list_of, ecall_bridge, ocall_bridge}

@@ -1,5 +1,5 @@
 -- The text of bridges and proxies, an instruction at a time.
-use Rattle.std.specs.Prelude.{ℕ, ◌+◌, ◌-◌, Bool, true, false, ◌&&◌, ◌||◌, if◌then◌else◌, ◌==◌, nat_lt, List, [], ◌∷◌, ◌++◌, map, filter, flat_map, length, slice_get, Option, Some, None, option_map, option_and_then, unwrap_or, decimal, codes}
+use Rattle.std.specs.Prelude.{ℕ, ◌-◌, Bool, true, false, ◌&&◌, ◌||◌, if◌then◌else◌, ◌==◌, nat_lt, List, [], ◌∷◌, ◌++◌, map, flat_map, length, slice_get, Option, Some, None, option_map, option_and_then, unwrap_or, decimal, codes}
 use Prim.Native.String.{String}
 use Rattle.edl_grammar.specs.declared.AttrValue.{AttrValue}
 use Rattle.edl_grammar.specs.declared.AttrValue.TheVariants as value
@@ -12,7 +12,7 @@ use Rattle.attr_terms.specs.Accepted.{value_behind}
 use Rattle.bridge_program.specs.declared.Instr.{Instr}
 use Rattle.bridge_program.specs.declared.Instr.TheVariants.{Begin, NoFrame, Frame, Length, Outside, Fence, Divide, Alloc, CopyIn, Zero, TextEnd, Call, PutReturn, CopyOut, End, OBegin, OLength, OWithin, OTotal, OAdd, OTake, OField, OBuffer, OCopy, OEnter, OReturn, OBack, OEnd}
 use Rattle.stub_printer.specs.Template.{Place, at, fill, lines, filled_lines, with_commas}
-use Rattle.stub_printer.specs.Declarations.{spelled, type_text, bare_text, declaration, declarations}
+use Rattle.stub_printer.specs.Declarations.{spelled, type_text, bare_text, declaration}
 use Rattle.stub_printer.specs.Products.{product_text}
 
 -- whether a parameter is copied between host and enclave

@@ -1,5 +1,5 @@
 -- The four files of an interface.
-use Rattle.std.specs.Prelude.{ℕ, ◌+◌, Bool, true, false, not, ◌||◌, if◌then◌else◌, ◌==◌, List, [], ◌∷◌, ◌++◌, map, filter, flat_map, length, Option, Some, None, is_some, option_map, unwrap_or, slice_get, decimal, codes}
+use Rattle.std.specs.Prelude.{ℕ, ◌+◌, Bool, true, false, not, ◌||◌, if◌then◌else◌, ◌==◌, List, [], ◌∷◌, ◌++◌, map, filter, flat_map, length, is_some, option_map, unwrap_or, decimal, codes}
 use Rattle.std.specs.List.{list_any}
 use Prim.Native.String.{String}
 use Rattle.edl_grammar.specs.declared.Gathered.{Gathered}
@@ -20,7 +20,7 @@ use Rattle.bridge_program.specs.Tables.{bridges_of, list_of}
 use Rattle.stub_printer.specs.declared.Which.{Which}
 use Rattle.stub_printer.specs.declared.Which.TheVariants as which
 use Rattle.stub_printer.specs.declared.Options.{Options}
-use Rattle.stub_printer.specs.Template.{Place, at, lines, filled_lines, with_commas}
+use Rattle.stub_printer.specs.Template.{at, lines, filled_lines, with_commas}
 use Rattle.stub_printer.specs.Declarations.{all_types, guard_name, declarations, type_text}
 use Rattle.stub_printer.specs.Bridges.{has_frame, string_size, param_lines, of_function, return_text, params_or_void, all_params, plain_params, bridge_text, frame_if_any}
 

@@ -37,7 +37,8 @@ fn bare_words_of<'a>(alloc: Global, words: &'a [Name]) -> Result<Vec<&'a [u8]>, 
 
 /// Appends words with one space between.
 fn put_words(out: &mut Vec<u8>, words: &[&[u8]]) -> Result<(), AllocError>
-    ensures { OnOk result (out.new.items ≡ out.old.items ++ joined_by (codes " ") (map (λ word. word.now) words.now)) }
+    ensures { OnOk result (out.new.items
+        ≡ out.old.items ++ joined_by (codes " ") (map (λ word. word.now) words.now)) }
 {
     match words {
         [] => Ok(()),
@@ -220,7 +221,8 @@ fn literal(negative: bool, number: u64) -> i128
 fn value_after(before: i128, value: &EnumValue) -> i128
     requires { int_lt before (pos (2 ^ 66)) ≡ true }
     ensures value { result ≡ value_after_of before value.now }
-    ensures below { (k : ℕ) → int_lt before (pos (2 ^ 64 + k)) ≡ true → int_lt result (pos (2 ^ 64 + (k + 1))) ≡ true }
+    ensures below { (k : ℕ) → int_lt before (pos (2 ^ 64 + k)) ≡ true →
+        int_lt result (pos (2 ^ 64 + (k + 1))) ≡ true }
 {
     match value.number {
         Some(number) => literal(value.negative, number),

@@ -117,7 +117,8 @@ fn put_trusted(
     options: &Options,
 ) -> Result<(), AllocError>
     ensures { OnOk result (out.new.items ≡ out.old.items ++ stubs.trusted_header_of
-        gathered.now (map (λ f. f.now) sides.entry.ecalls.now) (map (λ f. f.now) sides.entry.ocalls.now) options.now) }
+        gathered.now (map (λ f. f.now) sides.entry.ecalls.now) (map (λ f. f.now) sides.entry.ocalls.now)
+        options.now) }
 {
     put_trusted_guard(alloc, out, options)?;
     put_front(alloc, out, true, gathered)?;
@@ -135,7 +136,8 @@ fn put_untrusted(
     options: &Options,
 ) -> Result<(), AllocError>
     ensures { OnOk result (out.new.items ≡ out.old.items ++ stubs.untrusted_header_of
-        gathered.now (map (λ f. f.now) sides.entry.ecalls.now) (map (λ f. f.now) sides.entry.ocalls.now) options.now) }
+        gathered.now (map (λ f. f.now) sides.entry.ecalls.now) (map (λ f. f.now) sides.entry.ocalls.now)
+        options.now) }
 {
     put_untrusted_guard(alloc, out, options)?;
     put_front(alloc, out, false, gathered)?;

@@ -41,7 +41,8 @@ fn push_product(
 
 /// Appends a number, the first digit first.
 fn put_digits(out: &mut Vec<u8>, digits: &[u8]) -> Result<(), AllocError>
-    ensures { (n : ℕ) → digits.now ≡ low_digits n → OnOk result (out.new.items ≡ out.old.items ++ digit_bytes n) }
+    ensures { (n : ℕ) → digits.now ≡ low_digits n
+        → OnOk result (out.new.items ≡ out.old.items ++ digit_bytes n) }
 {
     match digits {
         [] => Ok(()),

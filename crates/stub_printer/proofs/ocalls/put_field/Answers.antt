@@ -1,4 +1,4 @@
-use Rattle.std.proofs.Common.{◌≡◌, true, false, sym, ◌∙◌}
+use Rattle.std.proofs.Common.{◌≡◌, false, sym, ◌∙◌}
 use Rattle.edl_layout.specs.Frame.{has}
 use Rattle.stub_printer.proofs.ocalls.put_field.Goals as goal
 

@@ -1,4 +1,4 @@
-use Rattle.std.proofs.Common.{rules, ℕ, ◌+◌, ◌/◌, ◌%◌, ◌<◌, ◌≡◌, List, [], ◌∷◌, ◌++◌, OnOk, ap, subst, sym, ◌∙◌, arith, append_assoc, append-nil}
+use Rattle.std.proofs.Common.{rules, ℕ, ◌/◌, ◌%◌, ◌<◌, ◌≡◌, List, [], ◌∷◌, ◌++◌, OnOk, ap, subst, sym, ◌∙◌, arith, append_assoc, append-nil}
 use Rattle.stub_printer.specs.Products.{low_digits}
 use Rattle.stub_printer.proofs.ProductLaws.{low_zero, low_step}
 use Rattle.stub_printer.proofs.products.+push_digits.Goals as goal

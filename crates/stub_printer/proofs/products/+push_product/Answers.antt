@@ -1,4 +1,4 @@
-use Rattle.std.proofs.Common.{rules, ℕ, ◌+◌, ◌*◌, ◌/◌, ◌%◌, ◌<◌, ◌≡◌, List, [], ◌∷◌, ◌++◌, OnOk, subst, ◌∙◌}
+use Rattle.std.proofs.Common.{rules, ℕ, ◌+◌, ◌*◌, ◌/◌, ◌%◌, ◌≡◌, List, [], ◌∷◌, ◌++◌, OnOk, subst, ◌∙◌}
 use Rattle.stub_printer.specs.Products.{low_digits}
 use Rattle.stub_printer.proofs.ProductLaws.{front, no_digits, carried, product_grows}
 use Rattle.stub_printer.proofs.products.+push_product.Goals as goal

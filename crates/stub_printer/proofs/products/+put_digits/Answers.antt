@@ -1,4 +1,4 @@
-use Rattle.std.proofs.Common.{rules, ℕ, ◌+◌, ◌%◌, ◌/◌, ◌≡◌, List, [], ◌∷◌, ◌++◌, get_or, ap, sym, ◌∙◌, append-nil}
+use Rattle.std.proofs.Common.{rules, ◌+◌, ◌%◌, ◌/◌, ◌≡◌, [], ◌∷◌, ◌++◌, get_or, ap, sym, ◌∙◌, append-nil}
 use Rattle.stub_printer.specs.Products.{digit_bytes}
 use Rattle.stub_printer.proofs.ProductLaws.{front, no_digits, no_bytes, bytes_grow}
 use Rattle.stub_printer.proofs.products.+put_digits.Goals as goal

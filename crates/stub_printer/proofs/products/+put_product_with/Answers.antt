@@ -1,4 +1,4 @@
-use Rattle.std.proofs.Common.{ℕ, ◌-◌, ◌+◌, ◌*◌, ◌<◌, ◌≡◌, List, [], ◌++◌, length, take, drop, OnOk, ap, subst, sym, ◌∙◌, arith}
+use Rattle.std.proofs.Common.{ℕ, ◌-◌, ◌+◌, ◌*◌, ◌<◌, ◌≡◌, ◌++◌, length, take, drop, OnOk, ap, subst, sym, ◌∙◌, arith}
 use Rattle.edl_layout.specs.Shape.{elements}
 use Rattle.stub_printer.specs.Products.{low_digits, decimal_text}
 use Rattle.stub_printer.proofs.ProductLaws.{elements_behind, regrouped}
