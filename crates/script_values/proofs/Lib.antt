@@ -4,5 +4,4 @@ pub mod FunctionLaws
 pub mod HexLaws
 pub mod NameLaws
 pub mod NumberLaws
-pub mod RowLaws
 pub mod SettingLaws

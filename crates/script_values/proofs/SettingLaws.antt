@@ -14,9 +14,10 @@ use Rattle.call_script.specs.Settings as row
 use Rattle.call_script.specs.Line.{Line, Set}
 use Rattle.call_script.specs.Block.{PlacedLine}
 use Rattle.call_script.specs.Standing.{lines_of, setting_in, set_to}
-use Rattle.script_values.specs.declared.settings.Setting.{Setting}
-use Rattle.script_values.specs.declared.settings.Setting.TheVariants.{Host, Stack, Arena, Cells, Retries, Tworkers, Uworkers, Slots}
-use Rattle.script_values.specs.Settings.{row_of, IsUngiven, AddsSetting}
+use Rattle.script_lines.specs.declared.line.Setting.{Setting}
+use Rattle.script_lines.specs.declared.line.Setting.TheVariants.{Host, Stack, Arena, Cells, Retries, TrustedWorkers, UntrustedWorkers, Slots}
+use Rattle.script_lines.specs.Lines.{setting_of}
+use Rattle.script_values.specs.Settings.{IsUngiven, AddsSetting}
 
 -- ---- one setting
 
@@ -27,23 +28,23 @@ within s (Some n) e =
     let range = and_parts _ _ both.0 in
     (n, refl, leb-true n s.most range.1)
 
-most : (s : Setting) → (row_of s).most ≤ 65536
+most : (s : Setting) → (setting_of s).most ≤ 65536
 most Host = omega arith
 most Stack = omega arith
 most Arena = omega arith
 most Cells = omega arith
 most Retries = omega arith
-most Tworkers = omega arith
-most Uworkers = omega arith
+most TrustedWorkers = omega arith
+most UntrustedWorkers = omega arith
 most Slots = omega arith
 
-module _ (s : Setting) (w : Word) (good : row.is_value_of (row_of s) w ≡ true) where
+module _ (s : Setting) (w : Word) (good : row.is_value_of (setting_of s) w ≡ true) where
   pub spelled : spelled_number w ≡ Some (number_of w)
-  spelled = let x = within (row_of s) (spelled_number w) good in x.1 ∙ sym (ap (λ o. Some (unwrap_or o 0)) x.1)
+  spelled = let x = within (setting_of s) (spelled_number w) good in x.1 ∙ sym (ap (λ o. Some (unwrap_or o 0)) x.1)
 
   pub value_fits : number_of w < 2 ^ 32
   value_fits =
-      let x = within (row_of s) (spelled_number w) good in
+      let x = within (setting_of s) (spelled_number w) good in
       let same : number_of w ≡ x.0 = ap (λ o. unwrap_or o 0) x.1 in
       let top = most s in
       omega arith
@@ -146,7 +147,7 @@ changed st Retries n = record {
   uworkers = st.uworkers;
   slots = st.slots;
 }
-changed st Tworkers n = record {
+changed st TrustedWorkers n = record {
   host = st.host;
   stack = st.stack;
   arena = st.arena;
@@ -156,7 +157,7 @@ changed st Tworkers n = record {
   uworkers = st.uworkers;
   slots = st.slots;
 }
-changed st Uworkers n = record {
+changed st UntrustedWorkers n = record {
   host = st.host;
   stack = st.stack;
   arena = st.arena;
@@ -190,7 +191,7 @@ module _ (ls : List Line) (w : Word) (n : ℕ) (number : spelled_number w ≡ So
   still : (s t : row.Setting) → bytes_eq s.word t.word ≡ false → after t s ≡ before s
   still s t e = kept s t ls w e
 
-  one_more : (s : Setting) → IsUngiven (row_of s) ls → changed (those before) s n ≡ those (after (row_of s))
+  one_more : (s : Setting) → IsUngiven (setting_of s) ls → changed (those before) s n ≡ those (after (setting_of s))
   one_more Host g =
       rw (
         now row.host refl g,
@@ -246,7 +247,7 @@ module _ (ls : List Line) (w : Word) (n : ℕ) (number : spelled_number w ≡ So
         still row.uworkers row.retries refl,
         still row.slots row.retries refl,
       ) refl
-  one_more Tworkers g =
+  one_more TrustedWorkers g =
       rw (
         now row.tworkers refl g,
         still row.host row.tworkers refl,
@@ -257,7 +258,7 @@ module _ (ls : List Line) (w : Word) (n : ℕ) (number : spelled_number w ≡ So
         still row.uworkers row.tworkers refl,
         still row.slots row.tworkers refl,
       ) refl
-  one_more Uworkers g =
+  one_more UntrustedWorkers g =
       rw (
         now row.uworkers refl g,
         still row.host row.uworkers refl,
@@ -286,9 +287,9 @@ lines-behind script l line e =
     filter_map-append (λ (k : PlacedLine). k.line) script (l ∷ []) ∙ ap (λ o. lines_of script ++ cons_option o []) e
 
 -- one more line changes the setting that it gives
-pub adds_setting : (old : Settings) (s t : Setting) (w : Word) (n : ℕ) → s ≡ t → row.is_value_of (row_of s) w ≡ true
-    → n ≡ number_of w → AddsSetting (row_of s) w old (changed old t n)
+pub adds_setting : (old : Settings) (s t : Setting) (w : Word) (n : ℕ) → s ≡ t → row.is_value_of (setting_of s) w ≡ true
+    → n ≡ number_of w → AddsSetting (setting_of s) w old (changed old t n)
 adds_setting old s t w n same good h i script l e f g =
     ap (λ (z : Setting). changed old z n) (sym same) ∙ ap (λ (z : Settings). changed z s n) e
     ∙ one_more (lines_of script) w n (spelled s w good ∙ ap Some (sym h)) s g
-    ∙ sym (ap (λ ls. those (setting_in ls)) (lines-behind script l (Set (row_of s) w) f))
+    ∙ sym (ap (λ ls. those (setting_in ls)) (lines-behind script l (Set (setting_of s) w) f))

@@ -1,4 +1,3 @@
 pub mod Actions
 pub mod Calls
-pub mod Rows
 pub mod Settings

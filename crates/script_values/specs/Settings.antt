@@ -1,4 +1,4 @@
--- The row of each setting, and the settings behind one more line.
+-- The settings behind one more line.
 use Rattle.std.specs.Prelude.{◌≡◌, true, false, List, [], ◌∷◌, ◌++◌, Some, is_some}
 use Rattle.std.specs.List.{list_any}
 use Rattle.edl_interface.specs.declared.Interface.{Interface}
@@ -9,18 +9,6 @@ use Rattle.call_script.specs.Line.{Line, Set}
 use Rattle.call_script.specs.Block.{PlacedLine}
 use Rattle.call_script.specs.Standing.{lines_of, set_to}
 use Rattle.call_script.specs.Meaning.{settings}
-use Rattle.script_values.specs.declared.settings.Setting.{Setting}
-use Rattle.script_values.specs.declared.settings.Setting.TheVariants.{Host, Stack, Arena, Cells, Retries, Tworkers, Uworkers, Slots}
-
-abbrev pub row_of : Setting → row.Setting
-row_of Host = row.host
-row_of Stack = row.stack
-row_of Arena = row.arena
-row_of Cells = row.cells
-row_of Retries = row.retries
-row_of Tworkers = row.tworkers
-row_of Uworkers = row.uworkers
-row_of Slots = row.slots
 
 -- no line gives the setting
 abbrev pub IsUngiven : row.Setting → List Line → Type 0

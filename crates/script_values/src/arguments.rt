@@ -7,12 +7,12 @@ ghost use Rattle.call_script.specs.Arguments as spec;
 ghost use Rattle.call_script.specs.Spelling as spelling;
 
 use crate::spelling::{
-    behind_at, behind_hash, behind_minus, bytes_of, is_bad_hex, is_decimal, is_in_frame, is_place,
+    behind_at, behind_hash, behind_minus, bytes_of, is_bad_hex, is_decimal, is_in_frame,
     is_place_out, place_named,
 };
 use call_script::CallArg;
 use edl_interface::{Class, Plain};
-use script_words::{is_number, same};
+use script_words::{is_number, is_place, same};
 use sgx_base::read_number;
 use std::alloc::{AllocError, Global};
 

@@ -10,7 +10,7 @@ mod functions;
 mod settings;
 mod spelling;
 
-pub use actions::{ActionWords, WordRule};
+pub use actions::WordRule;
 pub use arguments::{
     argument_of, is_bad_hex_argument, is_frame_argument, is_misfit, is_place_argument_out,
     is_wrong_argument,
@@ -22,7 +22,5 @@ pub use calls::{
     ocall_passes,
 };
 pub use functions::{named, ordinal_of};
-pub use settings::{Setting, default_settings, for_program, with_setting};
-pub use spelling::{
-    bytes_of, is_bad_hex, is_in_frame, is_place, is_place_out, is_wide, place_named,
-};
+pub use settings::{default_settings, for_program, with_setting};
+pub use spelling::{bytes_of, is_bad_hex, is_in_frame, is_place_out, is_wide, place_named};

@@ -11,7 +11,9 @@ ghost use Rattle.call_script.specs.Spelling as spec;
 
 use call_script::Place;
 use hex::FromHexError;
-use script_words::{begins_with, behind_first, is_name, is_number, is_out_of, number_of};
+use script_words::{
+    begins_with, behind_first, frame_offset, is_name, is_number, is_out_of, is_place, number_of,
+};
 use sgx_base::read_number;
 use sqlite_items::Items;
 use std::alloc::{AllocError, Global};
@@ -83,27 +85,6 @@ pub fn behind_minus(word: &[u8]) -> Option<&[u8]>
     ensures { option_copied result ≡ spec.behind_minus word.now }
 {
     behind(b'-', word)
-}
-
-/// What stands behind `frame+`.
-fn frame_offset(word: &[u8]) -> Option<&[u8]>
-    ensures { option_copied result ≡ spec.frame_offset word.now }
-{
-    if word.starts_with(b"frame+") {
-        Some(&word[6..])
-    } else {
-        None
-    }
-}
-
-/// Whether the word is an address, or `frame+` and a number.
-pub fn is_place(word: &[u8]) -> bool
-    ensures { result ≡ spec.is_place word.now }
-{
-    match frame_offset(word) {
-        Some(offset) => is_number(offset),
-        None => is_number(word),
-    }
 }
 
 /// Whether the word is a place in a frame.

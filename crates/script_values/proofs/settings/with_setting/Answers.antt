@@ -1,6 +1,6 @@
 use Rattle.std.proofs.Common.{arith}
 use Rattle.script_values.proofs.SettingLaws.{value_fits, adds_setting}
-use Rattle.script_values.specs.declared.settings.Setting.TheVariants.{Host, Stack, Arena, Cells, Retries, Tworkers, Uworkers, Slots}
+use Rattle.script_lines.specs.declared.line.Setting.TheVariants.{Host, Stack, Arena, Cells, Retries, TrustedWorkers, UntrustedWorkers, Slots}
 use Rattle.script_values.proofs.settings.with_setting.Goals as goal
 
 pub overflow_cast-number : goal.overflow_cast-number
@@ -31,14 +31,14 @@ returns-in-Retries c =
     adds_setting c.args.settings c.args.setting Retries c.args.word.now c.number_of-number.result c.in-Retries.is
     c.requires c.number_of-number.ensures
 
-pub returns-in-Tworkers : goal.returns-in-Tworkers
-returns-in-Tworkers c =
-    adds_setting c.args.settings c.args.setting Tworkers c.args.word.now c.number_of-number.result c.in-Tworkers.is
+pub returns-in-TrustedWorkers : goal.returns-in-TrustedWorkers
+returns-in-TrustedWorkers c =
+    adds_setting c.args.settings c.args.setting TrustedWorkers c.args.word.now c.number_of-number.result c.in-TrustedWorkers.is
     c.requires c.number_of-number.ensures
 
-pub returns-in-Uworkers : goal.returns-in-Uworkers
-returns-in-Uworkers c =
-    adds_setting c.args.settings c.args.setting Uworkers c.args.word.now c.number_of-number.result c.in-Uworkers.is
+pub returns-in-UntrustedWorkers : goal.returns-in-UntrustedWorkers
+returns-in-UntrustedWorkers c =
+    adds_setting c.args.settings c.args.setting UntrustedWorkers c.args.word.now c.number_of-number.result c.in-UntrustedWorkers.is
     c.requires c.number_of-number.ensures
 
 pub returns-in-Slots : goal.returns-in-Slots
