@@ -12,6 +12,8 @@ mod bytes;
 #[cfg(test)]
 mod copies;
 #[cfg(test)]
+mod frames;
+#[cfg(test)]
 mod ports;
 #[cfg(test)]
 mod ranges;
