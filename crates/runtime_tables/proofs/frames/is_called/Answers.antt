@@ -43,7 +43,10 @@ keeps_live before now block keeps (place, bytes, is) =
 
 pub check_args-requires : goal.check_args-requires
 check_args-requires c =
-    may_call _ _ _ _ _ _ _ c.in-Some.ensures c.in-Some-push_bytes.ensures _ _ (c.if-not-is_runnable.ensures.runs refl) (c.if-not-is_runnable.ensures.small refl) (c.if-not-are_of_kinds.ensures refl) c.as_slice.ensures c.as_slice-else-not-is_runnable.ensures.value c.args_of-args.ensures
+    may_call _ _ _ _ _ _ _ c.in-Some.ensures c.in-Some-push_bytes.ensures _ _
+    (c.if-not-is_runnable.ensures.runs refl) (c.if-not-is_runnable.ensures.small refl)
+    (c.if-not-are_of_kinds.ensures refl) c.as_slice.ensures c.as_slice-else-not-is_runnable.ensures.value
+    c.args_of-args.ensures
 
 pub new-requires-2-clause-bytes : goal.new-requires-2-clause-bytes
 new-requires-2-clause-bytes c = λ k h.
@@ -52,11 +55,17 @@ new-requires-2-clause-bytes c = λ k h.
 
 pub write_frame-requires-clause-call : goal.write_frame-requires-clause-call
 write_frame-requires-clause-call c =
-    may_call _ _ _ _ _ _ _ c.in-Some.ensures c.in-Some-push_bytes.ensures _ _ (c.if-not-is_runnable.ensures.runs refl) (c.if-not-is_runnable.ensures.small refl) (c.if-not-are_of_kinds.ensures refl) c.as_slice.ensures c.as_slice-else-not-is_runnable.ensures.value c.args_of-args.ensures
+    may_call _ _ _ _ _ _ _ c.in-Some.ensures c.in-Some-push_bytes.ensures _ _
+    (c.if-not-is_runnable.ensures.runs refl) (c.if-not-is_runnable.ensures.small refl)
+    (c.if-not-are_of_kinds.ensures refl) c.as_slice.ensures c.as_slice-else-not-is_runnable.ensures.value
+    c.args_of-args.ensures
 
 pub read_reply-requires-clause-call : goal.read_reply-requires-clause-call
 read_reply-requires-clause-call c =
-    may_call _ _ _ _ _ _ _ c.in-Some.ensures c.in-Some-push_bytes.ensures _ _ (c.if-not-is_runnable.ensures.runs refl) (c.if-not-is_runnable.ensures.small refl) (c.if-not-are_of_kinds.ensures refl) c.as_slice.ensures c.as_slice-else-not-is_runnable.ensures.value c.args_of-args.ensures
+    may_call _ _ _ _ _ _ _ c.in-Some.ensures c.in-Some-push_bytes.ensures _ _
+    (c.if-not-is_runnable.ensures.runs refl) (c.if-not-is_runnable.ensures.small refl)
+    (c.if-not-are_of_kinds.ensures refl) c.as_slice.ensures c.as_slice-else-not-is_runnable.ensures.value
+    c.args_of-args.ensures
 
 pub bytes-requires : goal.bytes-requires
 bytes-requires c =
