@@ -1,4 +1,2 @@
-mod Joining
-mod ProductLaws
-mod Rows
+mod AllowRows
 mod TableLaws

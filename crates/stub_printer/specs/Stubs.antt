@@ -1,6 +1,7 @@
 -- The four files of an interface.
-use Rattle.std.specs.Prelude.{ℕ, ◌+◌, Bool, true, false, not, ◌||◌, if◌then◌else◌, ◌==◌, List, [], ◌∷◌, ◌++◌, map, filter, flat_map, length, is_some, option_map, unwrap_or, decimal, codes}
+use Rattle.std.specs.Prelude.{ℕ, ◌≡◌, ◌<◌, ◌+◌, Bool, true, false, not, ◌||◌, if◌then◌else◌, ◌==◌, List, [], ◌∷◌, ◌++◌, map, filter, flat_map, length, get_or, is_some, option_map, unwrap_or, decimal, codes}
 use Rattle.std.specs.List.{list_any}
+use Rattle.std.specs.Char.{is_ascii_alphanumeric, to_ascii_uppercase}
 use Prim.Native.String.{String}
 use Rattle.edl_grammar.specs.declared.Gathered.{Gathered}
 use Rattle.edl_grammar.specs.declared.SourceFile.{SourceFile}
@@ -20,9 +21,10 @@ use Rattle.bridge_program.specs.Tables.{bridges_of, list_of}
 use Rattle.stub_printer.specs.declared.Which.{Which}
 use Rattle.stub_printer.specs.declared.Which.TheVariants as which
 use Rattle.stub_printer.specs.declared.Options.{Options}
-use Rattle.stub_printer.specs.Template.{at, lines, filled_lines, with_commas}
-use Rattle.stub_printer.specs.Declarations.{all_types, guard_name, declarations, type_text}
-use Rattle.stub_printer.specs.Bridges.{has_frame, string_size, param_lines, of_function, return_text, params_or_void, all_params, plain_params, bridge_text, frame_if_any}
+use Rattle.bridge_text.specs.Template.{at, lines, filled_lines, with_commas}
+use Rattle.bridge_text.specs.Declarations.{declarations, type_text}
+use Rattle.bridge_text.specs.Types.{all_types}
+use Rattle.bridge_text.specs.Bridges.{has_frame, string_size, param_lines, of_function, return_text, params_or_void, all_params, plain_params, list_text, frame_if_any}
 
 -- ---- includes
 
@@ -109,6 +111,13 @@ plain templates = plain_lines (map codes templates)
 abbrev pub of_files : Options → List String → List ℕ
 of_files o templates = file_lines o (map codes templates)
 
+-- in capitals, with `_` for each byte that is no letter or digit
+abbrev pub guard_byte : ℕ → ℕ
+guard_byte b = if is_ascii_alphanumeric b then to_ascii_uppercase b else 95
+
+abbrev pub guard_name : List ℕ → List ℕ
+guard_name name = map guard_byte name
+
 -- the lines that guard a header
 abbrev pub guard_lines : Options → List (List ℕ) → List ℕ
 guard_lines o templates = filled_lines (at "G" (guard_name o.name) ∷ []) templates
@@ -170,7 +179,7 @@ side i is_trusted = if is_trusted then i.ecalls else i.ocalls
 
 -- the bridge of a function by its instructions, which the tables have at its ordinal
 abbrev pub listed_text : Bridges → Bool → ℕ → FuncDecl → List ℕ
-listed_text bridges is_trusted ordinal f = unwrap_or (option_map (bridge_text f ordinal) (list_of bridges is_trusted ordinal)) []
+listed_text bridges is_trusted ordinal f = unwrap_or (option_map (list_text f ordinal) (list_of bridges is_trusted ordinal)) []
 
 unfoldable pub flag : Bool → List ℕ
 flag b = if b then codes "1" else codes "0"
@@ -195,9 +204,17 @@ abbrev pub call_table : List FuncDecl → List ℕ
 call_table ecalls =
     if length ecalls == 0 then plain ("const struct { size_t nr_ecall; } g_ecall_table = { 0 };" ∷ []) else full_call_table ecalls
 
+abbrev pub flag_text : Bool → List ℕ
+flag_text b = flag b ++ codes ", "
+
 -- whether an OCALL allows the ECALL of an ordinal
 abbrev pub allow_flag : List ℕ → ℕ → List ℕ
-allow_flag allow ordinal = flag (list_any (λ k. k == ordinal) allow) ++ codes ", "
+allow_flag allow ordinal = flag_text (list_any (λ k. k == ordinal) allow)
+
+-- the row tells of each of so many ordinals whether it is among those that are allowed
+pub record TellsAllowed (count : ℕ) (allow : List ℕ) (row : List Bool) : Type 0 where
+  pub count_is : length row ≡ count
+  pub each : (n : ℕ) → n < count → get_or row n false ≡ list_any (λ k. k == n) allow
 
 abbrev pub allow_flags : List ℕ → List FuncDecl → List ℕ
 allow_flags allow ecalls = each_from 0 (λ ordinal f. allow_flag allow ordinal) ecalls

@@ -1,22 +1,21 @@
 //! The two headers.
 
 ghost use Rattle.std.specs.Prelude.{◌≡◌, ◌++◌, IfOk, OnOk, map};
-ghost use Rattle.stub_printer.specs.Declarations.{guard_byte as guard_byte_of, guard_name as guard_name_of};
 ghost use Rattle.stub_printer.specs.Stubs as stubs;
 
 use crate::Options;
-use crate::declarations::put_types;
 use crate::functions::{Sides, ecalls_in, ocalls_in};
 use crate::includes::put_includes;
 use crate::named::put_plain;
 use crate::prototypes::{put_entry_prototypes, put_plain_prototypes, put_proxy_prototypes};
-use crate::templates::{at, put_lines};
+use bridge_text::templates::{at, put_lines};
+use bridge_text::types::put_types;
 use edl_grammar::Gathered;
 use std::alloc::{AllocError, Global};
 
 /// A byte in capitals, or `_` where it is no letter or digit.
 fn guard_byte(byte: u8) -> u8
-    ensures { result ≡ guard_byte_of byte }
+    ensures { result ≡ stubs.guard_byte byte }
 {
     if byte.is_ascii_alphanumeric() {
         byte.to_ascii_uppercase()
@@ -27,7 +26,7 @@ fn guard_byte(byte: u8) -> u8
 
 /// A name in capitals, with `_` for each byte that is no letter or digit.
 fn guard_name(alloc: Global, name: &[u8]) -> Result<Vec<u8>, AllocError>
-    ensures { IfOk result (λ v. v.items ≡ guard_name_of name.now) }
+    ensures { IfOk result (λ v. v.items ≡ stubs.guard_name name.now) }
 {
     let mut guard = Vec::new(alloc);
     for byte in name {

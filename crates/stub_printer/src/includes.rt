@@ -4,8 +4,8 @@ ghost use Rattle.std.specs.Prelude.{◌≡◌, ℕ, List, [], ◌++◌, IfOk, On
 ghost use Rattle.attr_terms.specs.Places.{TellsPlaces};
 ghost use Rattle.stub_printer.specs.Stubs as stubs;
 
-use crate::templates::{at, put_lines};
 use attr_terms::places::Places;
+use bridge_text::templates::{at, put_lines};
 use edl_grammar::{Gathered, IncludePlace, SourceFile};
 use std::alloc::{AllocError, Global};
 

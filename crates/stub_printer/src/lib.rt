@@ -6,20 +6,11 @@ ghost use Rattle.edl_interface.specs.Sound.{IsSound};
 ghost use Rattle.bridge_program.specs.Tables.{bridges_of};
 ghost use Rattle.stub_printer.specs.Stubs.{stub_text};
 
-mod declarations;
-mod ecalls;
-mod frames;
 mod functions;
 mod headers;
 mod includes;
-mod instructions;
-mod lengths;
 mod named;
-mod ocalls;
-mod parameters;
-mod products;
 mod prototypes;
-mod templates;
 mod trusted_source;
 mod untrusted_source;
 

@@ -4,10 +4,10 @@ ghost use Rattle.std.specs.Prelude.{◌≡◌, ◌++◌, OnOk, flat_map, map};
 ghost use Rattle.stub_printer.specs.Stubs as stubs;
 
 use crate::Options;
-use crate::declarations::{put_declarations, put_type};
-use crate::lengths::is_returning;
-use crate::parameters::{put_all_params, put_plain_params, put_return_param};
-use crate::templates::{at, put_lines};
+use bridge_text::declarations::{put_declarations, put_type};
+use bridge_text::lengths::is_returning;
+use bridge_text::parameters::{put_all_params, put_plain_params, put_return_param};
+use bridge_text::templates::{at, put_lines};
 use edl_grammar::FuncDecl;
 use std::alloc::{AllocError, Global};
 

@@ -1,20 +1,20 @@
 //! The trusted source: marshalling structures, bridges, tables and proxies.
 
-ghost use Rattle.std.specs.Prelude.{◌≡◌, ◌≤◌, [], ◌++◌, IfOk, OnOk, flat_map, length, map, option_map, unwrap_or, ◌==◌};
-ghost use Rattle.std.specs.List.{list_any};
+ghost use Rattle.std.specs.Prelude.{◌≡◌, ◌≤◌, [], ◌++◌, IfOk, OnOk, flat_map, length, map, option_map, unwrap_or};
 ghost use Rattle.std.specs.Option.{option_copied};
 ghost use Rattle.edl_interface.specs.Sound.{IsSound};
 ghost use Rattle.bridge_program.specs.Tables.{bridges_of, list_of};
-ghost use Rattle.stub_printer.specs.Bridges.{frame_if_any, bridge_text};
+ghost use Rattle.bridge_text.specs.Bridges.{frame_if_any, list_text};
+ghost use Rattle.stub_printer.specs.Stubs.{TellsAllowed};
 ghost use Rattle.stub_printer.specs.Stubs as stubs;
 
 use crate::Options;
-use crate::frames::put_frame_if_any;
 use crate::functions::{Sides, ecalls_in, ocalls_in};
-use crate::instructions::put_bridge;
 use crate::named::{put_of_files, put_plain};
-use crate::templates::{at, put_lines};
 use bridge_program::{Bridges, Instr};
+use bridge_text::frames::put_frame_if_any;
+use bridge_text::instructions::put_bridge;
+use bridge_text::templates::{at, put_lines};
 use edl_grammar::{FuncDecl, Gathered};
 use edl_interface::{Function, Interface};
 use std::alloc::{AllocError, Global};
@@ -87,7 +87,7 @@ fn put_listed(
     list: Option<&[Instr]>,
 ) -> Result<(), AllocError>
     ensures { OnOk result (out.new.items ≡ out.old.items
-        ++ unwrap_or (option_map (bridge_text f.now ordinal) (option_copied list.entry)) []) }
+        ++ unwrap_or (option_map (list_text f.now ordinal) (option_copied list.entry)) []) }
 {
     match list {
         Some(list) => put_bridge(alloc, out, f, ordinal, list),
@@ -203,30 +203,44 @@ fn put_call_table(alloc: Global, out: &mut Vec<u8>, ecalls: &[&FuncDecl]) -> Res
     }
 }
 
-/// Whether the ECALL of an ordinal is among those that are allowed.
-fn allows(allow: &[u32], ordinal: usize) -> bool
-    ensures { result ≡ list_any (λ k. k == ordinal) allow.now }
+/// Of each of so many ECALLs, whether its ordinal is among those that are allowed.
+fn allowed_row(alloc: Global, allow: &[u32], count: usize) -> Result<Vec<bool>, AllocError>
+    ensures { IfOk result (λ row. TellsAllowed count allow.now row.items) }
 {
-    allow.iter().any(|allowed| *allowed as usize == ordinal)
+    let mut row = Vec::new(alloc);
+    row.resize(count, false)?;
+    for ordinal in allow {
+        let place = *ordinal as usize;
+        if place < count {
+            row[place] = true;
+        }
+    }
+    Ok(row)
 }
 
-/// Appends whether an OCALL allows the ECALL of an ordinal.
-fn put_allow_flag(out: &mut Vec<u8>, allow: &[u32], ordinal: usize) -> Result<(), AllocError>
-    ensures { OnOk result (out.new.items ≡ out.old.items ++ stubs.allow_flag allow.now ordinal) }
+/// Appends a digit for each of these, and a comma behind it.
+fn put_flags(out: &mut Vec<u8>, row: &[bool]) -> Result<(), AllocError>
+    ensures { OnOk result (out.new.items ≡ out.old.items ++ flat_map stubs.flag_text row.now) }
 {
-    out.extend_from_slice(flag(allows(allow, ordinal)))?;
-    out.extend_from_slice(b", ")
+    for holds in row {
+        out.extend_from_slice(flag(*holds))?;
+        out.extend_from_slice(b", ")?;
+    }
+    Ok(())
 }
 
 /// Appends which of so many ECALLs an OCALL allows.
-fn put_allow_flags(out: &mut Vec<u8>, allow: &[u32], ecalls: &[&FuncDecl]) -> Result<(), AllocError>
+fn put_allow_flags(
+    alloc: Global,
+    out: &mut Vec<u8>,
+    allow: &[u32],
+    ecalls: &[&FuncDecl],
+) -> Result<(), AllocError>
     ensures { OnOk result (out.new.items ≡ out.old.items
         ++ stubs.allow_flags allow.now (map (λ f. f.now) ecalls.now)) }
 {
-    for (ordinal, _) in ecalls.iter().enumerate() {
-        put_allow_flag(out, allow, ordinal)?;
-    }
-    Ok(())
+    let row = allowed_row(alloc, allow, ecalls.len())?;
+    put_flags(out, &row)
 }
 
 /// Appends the row of an OCALL.
@@ -239,7 +253,7 @@ fn put_entry_row(
     ensures { OnOk result (out.new.items ≡ out.old.items ++ stubs.entry_row (map (λ f. f.now) ecalls.now) f.now) }
 {
     let mut flags = Vec::new(alloc);
-    put_allow_flags(&mut flags, f.allow.as_slice(), ecalls)?;
+    put_allow_flags(alloc, &mut flags, f.allow.as_slice(), ecalls)?;
     put_lines(out, &[at(b'X', &flags)], &["    { $X},"])
 }
 

@@ -1,17 +1,18 @@
 //! The untrusted source: marshalling structures, bridges of OCALLs, their table, and proxies of ECALLs.
 
 ghost use Rattle.std.specs.Prelude.{◌≡◌, ◌++◌, IfOk, OnOk, flat_map, map};
-ghost use Rattle.stub_printer.specs.Template.{with_commas};
+ghost use Rattle.bridge_text.specs.Template.{with_commas};
 ghost use Rattle.stub_printer.specs.Stubs as stubs;
 
 use crate::Options;
 use crate::functions::{Sides, ecalls_in, ocalls_in};
-use crate::lengths::{has_frame, is_returning, put_string_size};
-use crate::named::{put_of_files, put_of_function, put_of_param, put_plain};
+use crate::named::{put_of_files, put_plain};
 use crate::prototypes::put_entry_head;
-use crate::templates::{at, put_lines};
 use crate::trusted_source::{put_frames, put_table_foot};
 use attr_terms::attributes::{is_by_address, is_string};
+use bridge_text::lengths::{has_frame, is_returning, put_string_size};
+use bridge_text::named::{put_of_function, put_of_param};
+use bridge_text::templates::{at, put_lines};
 use edl_grammar::{Declared, FuncDecl, Gathered};
 use std::alloc::{AllocError, Global};
 

@@ -1,5 +1,5 @@
 use Rattle.std.proofs.Common.{◌≡◌, take}
-use Rattle.stub_printer.specs.Declarations.{guard_name}
+use Rattle.stub_printer.specs.Stubs.{guard_name}
 use Rattle.stub_printer.proofs.headers.guard_name.Given as goal
 
 abbrev pub invariant-loop-byte : goal.invariant-loop-byte

@@ -1,6 +1,6 @@
 use Rattle.std.proofs.Common.{◌≡◌, ◌++◌, map, take}
 use Rattle.std.specs.Prelude.{flat_map}
-use Rattle.stub_printer.specs.Bridges.{frame_if_any}
+use Rattle.bridge_text.specs.Bridges.{frame_if_any}
 use Rattle.stub_printer.proofs.trusted_source.put_side_frames.Given as goal
 
 abbrev pub invariant-loop-f : goal.invariant-loop-f

@@ -1,0 +1,5 @@
+pub mod Template
+pub mod Declarations
+pub mod Types
+pub mod Products
+pub mod Bridges

@@ -1,7 +1,0 @@
-use Rattle.std.proofs.Common.{◌≡◌, ◌++◌, take}
-use Rattle.std.specs.Prelude.{flat_map}
-use Rattle.stub_printer.specs.Declarations.{dim_text}
-use Rattle.stub_printer.proofs.declarations.put_dims.Given as goal
-
-abbrev pub invariant-loop-dim : goal.invariant-loop-dim
-invariant-loop-dim l = l.out.items ≡ l.initial.out.items ++ flat_map dim_text (take l.dim-index l.dims)

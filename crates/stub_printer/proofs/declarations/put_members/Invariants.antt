@@ -1,7 +1,0 @@
-use Rattle.std.proofs.Common.{◌≡◌, ◌++◌, take}
-use Rattle.std.specs.Prelude.{flat_map}
-use Rattle.stub_printer.specs.Declarations.{member_line}
-use Rattle.stub_printer.proofs.declarations.put_members.Given as goal
-
-abbrev pub invariant-loop-member : goal.invariant-loop-member
-invariant-loop-member l = l.out.items ≡ l.initial.out.items ++ flat_map member_line (take l.member-index l.members)

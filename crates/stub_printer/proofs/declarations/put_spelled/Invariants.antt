@@ -1,5 +1,0 @@
-use Rattle.std.proofs.Common.{◌≡◌, ◌++◌, replicate}
-use Rattle.stub_printer.proofs.declarations.put_spelled.Given as goal
-
-abbrev pub invariant-loop-star : goal.invariant-loop-star
-invariant-loop-star l = l.out.items ≡ l.initial.out.items ++ replicate l.star 42

@@ -1,7 +1,0 @@
-use Rattle.std.proofs.Common.{◌≡◌, ◌++◌, take}
-use Rattle.std.specs.Prelude.{flat_map}
-use Rattle.stub_printer.specs.Declarations.{type_lines}
-use Rattle.stub_printer.proofs.declarations.put_types.Given as goal
-
-abbrev pub invariant-loop-file : goal.invariant-loop-file
-invariant-loop-file l = l.out.items ≡ l.initial.out.items ++ flat_map (λ f. flat_map type_lines f.tree.types) (take l.file-index l.gathered.files)

@@ -1,5 +1,0 @@
-use Rattle.std.proofs.Common.{length}
-use Rattle.stub_printer.proofs.ecalls.+put_frees.Given as goal
-
-abbrev pub decreases-put_frees : goal.decreases-put_frees
-decreases-put_frees l = length l.params.now

@@ -1,5 +1,0 @@
-use Rattle.std.proofs.Common.{length}
-use Rattle.stub_printer.proofs.products.+put_product_with.Given as goal
-
-abbrev pub decreases-put_product_with : goal.decreases-put_product_with
-decreases-put_product_with l = length l.dims.now
