@@ -1,0 +1,6 @@
+mod WordLaws
+mod TemplateLaws
+mod ExpressionLaws
+mod InstructionLaws
+mod ListLaws
+mod BridgeLaws
