@@ -1,7 +1,7 @@
 use Rattle.std.proofs.Common.{refl}
-use Rattle.call_engine.specs.RootFile.{no_foreign}
-use Rattle.call_engine.proofs.RootLaws.{told_by_rules, given_by_rules}
-use Rattle.call_engine.proofs.root_file.accepted.Goals as goal
+use Rattle.call_engine.specs.Interfaces.{no_foreign}
+use Rattle.call_engine.proofs.InterfaceLaws.{told_by_rules, given_by_rules}
+use Rattle.call_engine.proofs.interfaces.accepted.Goals as goal
 
 pub returns-clause-ok : goal.returns-clause-ok
 returns-clause-ok c = given_by_rules c.args.gathered.now c.args.layouts.now c.check.result c.check.ensures.exact

@@ -2,8 +2,8 @@ use Rattle.std.proofs.Common.{subst}
 use Rattle.edl_layout.specs.declared.ForeignTypes.{ForeignTypes}
 use Rattle.edl_layout.specs.Faults.{HasLayouts, HasLayoutFault}
 use Rattle.edl_layout.specs.Table.{IsTable}
-use Rattle.call_engine.proofs.RootLaws.{told_by_layouts}
-use Rattle.call_engine.proofs.root_file.layouts_with.Goals as goal
+use Rattle.call_engine.proofs.InterfaceLaws.{told_by_layouts}
+use Rattle.call_engine.proofs.interfaces.layouts_with.Goals as goal
 
 pub returns-in-Ok-clause-ok : goal.returns-in-Ok-clause-ok
 returns-in-Ok-clause-ok c = record {

@@ -1,7 +1,7 @@
 use Rattle.std.proofs.Common.{inr, refl, sym, ◌∙◌}
-use Rattle.call_engine.specs.RootFile.{other}
+use Rattle.call_engine.specs.Interfaces.{other}
 use Rattle.call_engine.proofs.TakenLaws.{taken_plain}
-use Rattle.call_engine.proofs.root_file.taken_interface.Goals as goal
+use Rattle.call_engine.proofs.interfaces.taken_interface.Goals as goal
 
 pub returns-then-not-is_taken-clause-err : goal.returns-then-not-is_taken-clause-err
 returns-then-not-is_taken-clause-err c =
