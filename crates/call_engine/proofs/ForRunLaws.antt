@@ -1,37 +1,46 @@
--- What is read of one file may be run on.
-use Rattle.std.proofs.Common.{arith, ℕ, zero, suc, ◌≡◌, ◌⊎◌, inl, inr, List, [], ◌∷◌, map, length, refl, sym, ap, ◌∙◌, subst}
-use Rattle.std.specs.Prelude.{Contains}
-use Rattle.std.proofs.lemmas.List.Elements.{All-cons, All-nil, Contains-append_cases}
-use Rattle.edl_lexer.specs.declared.Token.{Token}
+-- What was gathered may be run on.
+use Rattle.std.proofs.Common.{◌≡◌, true, ℕ, List, Option, Some, None, All, get_or, Ok, Result, refl, ap, subst}
+use Rattle.std.specs.Str.{bytes_eq}
+use Rattle.std.proofs.lemmas.List.Elements.{All-nil}
+use Rattle.std.proofs.lemmas.Slice.Eq.{bytes_eq-Decides}
+use Rattle.sgx_base.specs.Stores.{Store}
 use Rattle.edl_grammar.specs.declared.EdlFile.{EdlFile}
 use Rattle.edl_grammar.specs.declared.Gathered.{Gathered}
+use Rattle.edl_grammar.specs.declared.ParseFault.{ParseFault}
 use Rattle.edl_grammar.specs.declared.SourceFile.{SourceFile}
 use Rattle.edl_grammar.specs.declared.TypeDecl.{TypeDecl}
-use Rattle.edl_grammar.specs.Files.{TypeIn, types_of}
-use Rattle.attr_rules.specs.ForRun.{AreForRun, IsRead as is_read}
-use Rattle.call_engine.specs.RootFile.{IsRead, alone, no_foreign}
+use Rattle.edl_grammar.specs.declared.TypeDecl.TheVariants as decl
+use Rattle.edl_grammar.specs.Files.{name_of}
+use Rattle.edl_grammar.specs.Sentence.{Parses}
+use Rattle.edl_grammar.proofs.Theorem.{computed}
+use Rattle.edl_imports.specs.Apart.{IsSource, TypesAreApart}
+use Rattle.edl_imports.specs.ComeTo.{IsReached}
+use Rattle.edl_layout.specs.Meaning.{is_named}
+use Rattle.attr_rules.specs.ForRun.{AreForRun, IsRead}
+use Rattle.call_engine.specs.Interfaces.{no_foreign}
 use Rattle.call_engine.proofs.ReadLaws.{read_tree}
 
--- types of the file of this number
-in_file : (n : ℕ) (ts : List TypeDecl) (t : TypeIn) → Contains (map (λ d. record { file = n; decl = d }) ts) t → t.file ≡ n
-in_file n [] t (k, lt, is) = absurd (omega arith)
-in_file n (d ∷ ts) t (zero, lt, is) = sym (ap (λ (s : TypeIn). s.file) is)
-in_file n (d ∷ ts) t (suc k, lt, is) = in_file n ts t (k, omega arith, is)
+-- the tree of a source is one that a parser keeps
+source_read : (contents : Option Store) (f : SourceFile) → IsSource contents f → IsRead f.tree
+source_read contents f s =
+    let parsed : Parses s.number s.bytes f.tokens (Ok f.tree) =
+    subst (λ (r : Result EdlFile ParseFault). Parses s.number s.bytes f.tokens r) s.parsed (computed s.number s.bytes f.tokens) in
+    read_tree s.bytes f.tokens f.tree parsed.0
 
-in_first : (name : List ℕ) (tokens : List Token) (tree : EdlFile) (t : TypeIn) → Contains (types_of (alone name tokens tree)) t → t.file ≡ 0
-in_first name tokens tree t there = go (Contains-append_cases (map (λ d. record { file = 0; decl = d }) tree.types) [] t there)
-  where
-    go : Contains (map (λ d. record { file = 0; decl = d }) tree.types) t ⊎ Contains [] t → t.file ≡ 0
-    go (inl h) = in_file 0 tree.types t h
-    go (inr (k, lt, is)) = absurd (omega arith)
+-- a type of this name has it
+has_name : (name n : List ℕ) → bytes_eq n name ≡ true → Some n ≡ Some name
+has_name name n is = ap Some ((bytes_eq-Decides n name).0 is)
 
-pub alone_for_run : (name bytes : List ℕ) (g : Gathered) → IsRead name bytes g → AreForRun g no_foreign
-alone_for_run name bytes g r = subst (λ (h : Gathered). AreForRun h no_foreign) (sym r.gathered) (record {
+named : (name : List ℕ) (file : ℕ) (t : TypeDecl) → is_named name (record { file = file; decl = t }) ≡ true → name_of t ≡ Some name
+named name file (decl.Enumeration token (Some n) values) is = has_name name n is
+named name file (decl.Enumeration token None values) is = absurd cc
+named name file (decl.Structure token n members) is = has_name name n is
+named name file (decl.Union token n members) is = has_name name n is
+
+pub gathered_for_run : (contents : Option Store) (paths : List (List ℕ)) (edl : List ℕ) (g : Gathered) → All (IsReached contents paths edl) g.files → TypesAreApart g → AreForRun g no_foreign
+gathered_for_run contents paths edl g reached apart = record {
   strict = refl;
   aligned = All-nil _;
-  trees = All-cons (λ (f : SourceFile). is_read f.tree) (record { name = name; tokens = r.tokens; tree = r.tree }) [] (read_tree bytes r.tokens r.tree r.parsed.0) (All-nil _);
-  names = λ n a b p q _ _. in_first name r.tokens r.tree a p ∙ sym (in_first name r.tokens r.tree b q);
-})
-
-pub one_file : (name bytes : List ℕ) (g : Gathered) → IsRead name bytes g → length g.files ≡ 1
-one_file name bytes g r = ap (λ (h : Gathered). length h.files) r.gathered
+  trees = λ k d h. source_read contents (get_or g.files k d) (reached k d h).source;
+  names = λ name a b p q is_a is_b. apart.in_one_file name a b p q (named name a.file a.decl is_a) (named name b.file b.decl is_b);
+}

@@ -1,3 +1,4 @@
+pub mod Interfaces
 pub mod Prepared
-pub mod RootFile
 pub mod Taken
+pub mod Told

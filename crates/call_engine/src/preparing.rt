@@ -9,78 +9,20 @@ ghost use Rattle.edl_interface.specs.Sound.{IsSound};
 ghost use Rattle.call_machine.specs.Plain.{IsPlainInterface, IsPlainMachine};
 ghost use Rattle.call_machine.specs.Sound.{IsSoundMachine};
 ghost use Rattle.attr_rules.specs.ForRun.{AreForRun};
-ghost use Rattle.call_engine.specs.RootFile.{IsRead, IsMisread, IsTaken, IsRefused, no_foreign};
-ghost use Rattle.call_engine.specs.Prepared.{FilesGive, GivesRoot, IsUnprepared, IsUnread, IsEdlFault, IsMachineOf, IsMachineFault, IsScriptFault};
+ghost use Rattle.call_engine.specs.Interfaces.{IsTaken, IsRefused, no_foreign};
+ghost use Rattle.call_engine.specs.Prepared.{FilesGive, GivesRoot, IsUnprepared, IsUnread, IsEdlFault};
+ghost use Rattle.call_engine.specs.Prepared.{IsMachineOf, IsMachineFault, IsScriptFault};
 
 use crate::Machine;
-use crate::root_file::{read_root, taken_interface};
-use attr_rules::RuleFault;
+use crate::faults::{PrepareFault, not_found, not_read, of_gathering, of_rules};
+use crate::interfaces::taken_interface;
 use call_script::{Script, ScriptFault};
+use edl_grammar::Gathered;
+use edl_imports::gather;
 use edl_interface::Interface;
-use edl_parser::Gathered;
 use script_form::read_script;
-use sgx_base::{Fault, FileFault, Files, Name, Word};
-use std::alloc::{AllocError, Global};
-
-/// Why files give no machine.
-#[derive(Debug, Drop)]
-pub enum PrepareFault {
-    /// The EDL file of this name breaks a rule.
-    Edl { name: Name, fault: Fault },
-    /// The script breaks the rule of this code at this line.
-    Script { line: u32, code: u8 },
-    /// There is no file of this name.
-    NotFound(Name),
-    /// The file of this name could not be read.
-    ReadFault(Name),
-    Memory,
-}
-
-impl From<AllocError> for PrepareFault {
-    ghost use Rattle.std.specs.Prelude.{◌≡◌};
-    ghost use Rattle.call_engine.specs.declared.preparing.PrepareFault.TheVariants.{Memory};
-
-    ghost from_gives = { λ _ e. e ≡ Memory };
-
-    fn from(_: AllocError) -> PrepareFault {
-        PrepareFault::Memory
-    }
-}
-
-fn not_found(alloc: Global, name: &str) -> PrepareFault
-    ensures { OrMemory PrepareFault.Memory (λ fault. fault ≡ PrepareFault.NotFound name.now) result }
-{
-    match Name::new(alloc, name.as_bytes()) {
-        Ok(name) => PrepareFault::NotFound(name),
-        Err(_) => PrepareFault::Memory,
-    }
-}
-
-fn not_read(alloc: Global, name: &str, fault: FileFault) -> PrepareFault
-    ensures { OrMemory PrepareFault.Memory
-        (λ told. (told ≡ PrepareFault.ReadFault name.now) × (fault ≡ FileFault.Failed)) result }
-{
-    let FileFault::Failed = fault else {
-        return PrepareFault::Memory;
-    };
-    match Name::new(alloc, name.as_bytes()) {
-        Ok(name) => PrepareFault::ReadFault(name),
-        Err(_) => PrepareFault::Memory,
-    }
-}
-
-/// A fault of the EDL file of this name.
-fn of_edl(alloc: Global, edl: &str, fault: RuleFault) -> PrepareFault
-    ensures { OrMemory PrepareFault.Memory (IsEdlFault edl.now (λ f. fault ≡ RuleFault.Rule f)) result }
-{
-    let RuleFault::Rule(fault) = fault else {
-        return PrepareFault::Memory;
-    };
-    match Name::new(alloc, edl.as_bytes()) {
-        Ok(name) => PrepareFault::Edl { name, fault },
-        Err(_) => PrepareFault::Memory,
-    }
-}
+use sgx_base::{Files, Word};
+use std::alloc::Global;
 
 fn read_file<F: Files>(alloc: Global, files: &mut F, name: &str) -> Result<Vec<u8>, PrepareFault>
     ensures ok { IfOk result (λ v. Holds (F.state files.old) name.now (Some v.items)) }
@@ -96,44 +38,39 @@ fn read_file<F: Files>(alloc: Global, files: &mut F, name: &str) -> Result<Vec<u
     }
 }
 
-/// What the EDL file says, of which these are the bytes.
-fn root_of(alloc: Global, edl: &str, bytes: &[u8]) -> Result<Gathered, PrepareFault>
-    requires { length bytes.now ≤ max_file_size }
-    ensures ok { IfOk result (IsRead edl.now bytes.now) }
+/// The EDL file of this name, and all that it imports by this search path.
+fn read_edl<F: Files>(
+    alloc: Global,
+    files: &mut F,
+    paths: &[Word],
+    edl: &str,
+) -> Result<Gathered, PrepareFault>
+    ensures ok { IfOk result (GivesRoot (F.state files.old) paths.now edl.now) }
     ensures few { IfOk result (λ g. length g.files < 2 ^ 32) }
     ensures for_run { IfOk result (λ g. AreForRun g no_foreign) }
-    ensures err { IfErr result (OrMemory PrepareFault.Memory (IsEdlFault edl.now (IsMisread bytes.now))) }
+    ensures err { (script : List ℕ) → IfErr result (OrMemory PrepareFault.Memory
+        (IsUnprepared paths.now edl.now script (F.state files.old) (F.state files.new))) }
+    ensures kept { AreOnlyRead (F.state files.old) (F.state files.new) }
 {
-    match read_root(alloc, edl, bytes) {
+    match gather(alloc, files, edl, paths) {
         Ok(gathered) => Ok(gathered),
-        Err(fault) => Err(of_edl(alloc, edl, fault)),
+        Err(fault) => Err(of_gathering(alloc, fault)),
     }
 }
 
-fn read_edl<F: Files>(alloc: Global, files: &mut F, edl: &str) -> Result<Gathered, PrepareFault>
-    ensures ok { IfOk result (GivesRoot (F.state files.old) edl.now) }
-    ensures few { IfOk result (λ g. length g.files < 2 ^ 32) }
-    ensures for_run { IfOk result (λ g. AreForRun g no_foreign) }
-    ensures err { (script : List ℕ) → IfErr result
-        (OrMemory PrepareFault.Memory (IsUnprepared edl.now script (F.state files.old) (F.state files.new))) }
-    ensures kept { AreOnlyRead (F.state files.old) (F.state files.new) }
-{
-    let bytes = read_file(alloc, files, edl)?;
-    root_of(alloc, edl, &bytes)
-}
-
-/// The interface of what the EDL file says.
-fn interface_of(alloc: Global, edl: &str, gathered: &Gathered) -> Result<Interface, PrepareFault>
+/// The interface of gathered files.
+fn interface_of(alloc: Global, gathered: &Gathered) -> Result<Interface, PrepareFault>
     requires few { length gathered.now.files < 2 ^ 32 }
     requires for_run { AreForRun gathered.now no_foreign }
     ensures ok { IfOk result (IsTaken gathered.now) }
     ensures sound { IfOk result IsSound }
     ensures plain { IfOk result IsPlainInterface }
-    ensures err { IfErr result (OrMemory PrepareFault.Memory (IsEdlFault edl.now (IsRefused gathered.now))) }
+    ensures err { IfErr result
+        (OrMemory PrepareFault.Memory (IsEdlFault gathered.now.files (IsRefused gathered.now))) }
 {
     match taken_interface(alloc, gathered) {
         Ok(interface) => Ok(interface),
-        Err(fault) => Err(of_edl(alloc, edl, fault)),
+        Err(fault) => Err(of_rules(alloc, gathered.files.as_slice(), fault)),
     }
 }
 
@@ -151,43 +88,38 @@ fn script_of(alloc: Global, interface: &Interface, text: &[u8]) -> Result<Script
     }
 }
 
-/// The machine of what the EDL file says and of a script's text.
-fn machine_of(
-    alloc: Global,
-    edl: &str,
-    gathered: &Gathered,
-    text: &[u8],
-) -> Result<Machine, PrepareFault>
+/// The machine of gathered files and of a script's text.
+fn machine_of(alloc: Global, gathered: &Gathered, text: &[u8]) -> Result<Machine, PrepareFault>
     requires few { length gathered.now.files < 2 ^ 32 }
     requires for_run { AreForRun gathered.now no_foreign }
     requires short { length text.now ≤ max_file_size }
     ensures ok { IfOk result (λ m. IsMachineOf gathered.now text.now m) }
     ensures plain { IfOk result (λ m. IsPlainMachine m) }
-    ensures err { IfErr result (OrMemory PrepareFault.Memory (IsMachineFault edl.now gathered.now text.now)) }
+    ensures err { IfErr result (OrMemory PrepareFault.Memory (IsMachineFault gathered.now text.now)) }
 {
-    let interface = interface_of(alloc, edl, gathered)?;
+    let interface = interface_of(alloc, gathered)?;
     let script = script_of(alloc, &interface, text)?;
     Ok(Machine { interface, script })
 }
 
-/// The machine of an EDL file and a script. Files are read whole, and the EDL file is a sentence before the script is
-/// looked for.
+/// The machine of an EDL file and a script. Files are read whole. The EDL file and all that it imports are gathered
+/// before the script is looked for; an imported file is looked for in the directories of the search path too.
 pub fn prepare<F: Files>(
     alloc: Global,
     files: &mut F,
-    _paths: &[Word],
+    paths: &[Word],
     edl: &str,
     script: &str,
     _racing: bool,
 ) -> Result<Machine, PrepareFault>
     ensures plain { IfOk result (λ m. IsPlainMachine m) }
     ensures sound { IfOk result (λ m. IsSoundMachine m) }
-    ensures ok { IfOk result (λ m. FilesGive (F.state files.old) edl.now script.now (Ok m)) }
-    ensures err { IfErr result
-        (OrMemory PrepareFault.Memory (IsUnprepared edl.now script.now (F.state files.old) (F.state files.new))) }
+    ensures ok { IfOk result (λ m. FilesGive (F.state files.old) paths.now edl.now script.now (Ok m)) }
+    ensures err { IfErr result (OrMemory PrepareFault.Memory
+        (IsUnprepared paths.now edl.now script.now (F.state files.old) (F.state files.new))) }
     ensures kept { AreOnlyRead (F.state files.old) (F.state files.new) }
 {
-    let gathered = read_edl(alloc, files, edl)?;
+    let gathered = read_edl(alloc, files, paths, edl)?;
     let text = read_file(alloc, files, script)?;
-    machine_of(alloc, edl, &gathered, &text)
+    machine_of(alloc, &gathered, &text)
 }

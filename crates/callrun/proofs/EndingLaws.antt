@@ -1,5 +1,7 @@
 -- How a call ends, what it answers then, and where nothing fails.
-use Rattle.std.proofs.Common.{ℕ, ◌≡◌, inl, inr, List, [], ◌∷◌, length, Option, Some, Result, Ok, Err, IfOk, IfSome, OnOk, OnErr, refl, sym, ◌∙◌, ap, subst, get_or, arith, ◌≤◌, ◌<◌}
+use Rattle.std.proofs.Common.{ℕ, ◌≡◌, inl, inr, List, [], ◌∷◌, length, Option, Some, None, Result, Ok, Err, IfOk, IfSome, OnOk, OnErr, refl, sym, ◌∙◌, ap, subst, get_or, arith, ◌≤◌, ◌<◌, Bool, true, false}
+use Rattle.std.specs.Prelude.{if◌then◌else◌, codes}
+use Rattle.std.specs.Str.{bytes_eq}
 use Rattle.sgx_base.specs.Outcome.{OrMemory}
 use Rattle.sgx_base.specs.Sinks.{SinkState, SinkFailed, Wrote, WrotePart}
 use Rattle.sgx_base.specs.Stores.{Store, FilesState}
@@ -7,25 +9,13 @@ use Rattle.sgx_base.specs.declared.sink.SinkFault.{SinkFault}
 use Rattle.sgx_base.specs.declared.sink.SinkFault.TheVariants.{Failed, Memory}
 use Rattle.std.specs.declared.alloc.AllocError.{AllocError}
 use Rattle.call_machine.specs.declared.Machine.{Machine}
-use Rattle.call_engine.specs.declared.preparing.PrepareFault.{PrepareFault}
-use Rattle.call_engine.specs.declared.preparing.PrepareFault.TheVariants.{Edl as of_edl, Script as of_script}
+use Rattle.call_engine.specs.declared.faults.PrepareFault.{PrepareFault}
+use Rattle.call_engine.specs.declared.faults.PrepareFault.TheVariants.{Edl as of_edl, Script as of_script, NotFound}
 use Rattle.call_engine.specs.Prepared.{FilesGive, Prepares}
 use Rattle.callrun.specs.declared.Ending.{Ending}
 use Rattle.callrun.specs.declared.Ending.TheVariants.{Usage, Edl, Script, Unread, Missing, Reported, Cut}
-use Rattle.callrun.specs.Endings.{AreNames, HasCause, Ends, status_of, text_of}
+use Rattle.callrun.specs.Endings.{Names, named, directories, names_of, HasCause, EndsBy, Ends, status_of, text_of}
 use Rattle.callrun.specs.Answers.{Answers, reported, usage, edl_fault, script_fault, unread, refused, out_of_memory, missing, full, IsRunnable, NothingFailed}
-
--- the cause of the files is one of the words that name them
-pub cause_of_names : (words : List (List ℕ)) (edl script : List ℕ) (before after : FilesState) (result : Result Ending AllocError) → AreNames words edl script
-    → IfOk result (HasCause edl script before after) → IfOk result (Ends words before after)
-cause_of_names words edl script before after (Err e) names h = tt
-cause_of_names words edl script before after (Ok Usage) names h = absurd h
-cause_of_names words edl script before after (Ok (Edl name fault)) names h = (edl, script, names, h)
-cause_of_names words edl script before after (Ok (Script name line code)) names h = (edl, script, names, h)
-cause_of_names words edl script before after (Ok (Unread name)) names h = (edl, script, names, h)
-cause_of_names words edl script before after (Ok (Missing name)) names h = (edl, script, names, h)
-cause_of_names words edl script before after (Ok (Reported text)) names h = (edl, script, names, h)
-cause_of_names words edl script before after (Ok (Cut limit)) names h = (edl, script, names, h)
 
 -- ---- the answer where an ending's text was written, or a part of it
 
@@ -55,55 +45,44 @@ answered words before after old new ending text (Err Memory) status result e t s
 
 -- ---- where nothing fails
 
-abbrev first : List (List ℕ) → List ℕ
-first [] = []
-first (x ∷ xs) = x
+module _ (words : List (List ℕ)) (before after : FilesState) (r : IsRunnable words before) where
+  decided : (answer : Result Machine PrepareFault) → FilesGive before r.names.paths r.names.edl r.names.script answer
+      → Prepares r.store r.names.paths r.names.edl r.names.script answer
+  decided answer gives = subst (λ (contents : Option Store). IfSome contents (λ s. Prepares s r.names.paths r.names.edl r.names.script answer)) r.told gives
 
-abbrev second : List (List ℕ) → List ℕ
-second [] = []
-second (x ∷ xs) = first xs
+  -- the files have no such fault
+  no_fault : (fault : PrepareFault) → FilesGive before r.names.paths r.names.edl r.names.script (Err fault) → ⊥
+  no_fault fault gives = r.faultless fault (decided (Err fault) gives)
 
-same_names : (words : List (List ℕ)) (a b c d : List ℕ) → AreNames words a b → AreNames words c d → (a ≡ c) × (b ≡ d)
-same_names words a b c d p q = (ap first (sym p.two ∙ q.two), ap second (sym p.two ∙ q.two))
+  -- by the files of the names
+  done_by_files : (old new : SinkState) (ending : Ending) → NothingFailed before after old new → HasCause r.names before after ending → status_of ending ≡ 0
+  done_by_files old new Usage n h = absurd h
+  done_by_files old new (Edl name fault) n h = absurd (no_fault (of_edl name fault) h.1)
+  done_by_files old new (Script name line code) n h = absurd (no_fault (of_script line code) h.1)
+  done_by_files old new (Unread name) n h = absurd (n.read h.0)
+  done_by_files old new (Missing name) n h = absurd (no_fault (NotFound name) h.2)
+  done_by_files old new (Reported text) n h = refl
+  done_by_files old new (Cut limit) n h = absurd (r.uncut h.machine limit (decided (Ok h.machine) h.gives) h.cut)
 
-decided : (files : FilesState) (edl script : List ℕ) (store : Store) (answer : Result Machine PrepareFault) → files.contents ≡ Some store → FilesGive files edl script answer → Prepares store edl script answer
-decided files edl script store answer told gives = subst (λ (contents : Option Store). IfSome contents (λ s. Prepares s edl script answer)) told gives
-
--- by the files of the names that a machine is given for
-done_by_files : (words : List (List ℕ)) (before after : FilesState) (old new : SinkState) (ending : Ending) (r : IsRunnable words before) → NothingFailed before after old new
-    → HasCause r.edl r.script before after ending → status_of ending ≡ 0
-done_by_files words before after old new Usage r n h = absurd h
-done_by_files words before after old new (Edl name fault) r n h =
-    absurd (r.faultless (of_edl r.edl fault) (decided before r.edl r.script r.store (Err (of_edl r.edl fault)) r.told h.1))
-done_by_files words before after old new (Script name line code) r n h =
-    absurd (r.faultless (of_script line code) (decided before r.edl r.script r.store (Err (of_script line code)) r.told h.1))
-done_by_files words before after old new (Unread name) r n h = absurd (n.read h.0)
-done_by_files words before after old new (Missing name) r n h = absurd (n.found h.0)
-done_by_files words before after old new (Reported text) r n h = refl
-done_by_files words before after old new (Cut limit) r n h = absurd (r.uncut h.machine limit (decided before r.edl r.script r.store (Ok h.machine) r.told h.gives) h.cut)
-
--- by the words, whatever names they are
-done_by_names : (words : List (List ℕ)) (before after : FilesState) (old new : SinkState) (ending : Ending) (r : IsRunnable words before) → NothingFailed before after old new
-    → (edl script : List ℕ) → AreNames words edl script → HasCause edl script before after ending → status_of ending ≡ 0
-done_by_names words before after old new ending r n edl script names h =
-    let same = same_names words edl script r.edl r.script names r.names in
-    done_by_files words before after old new ending r n
-    (subst (λ (s : List ℕ). HasCause r.edl s before after ending) same.1 (subst (λ (e : List ℕ). HasCause e script before after ending) same.0 h))
+  -- by the words
+  done : (old new : SinkState) (ending : Ending) → NothingFailed before after old new → Ends words before after ending → status_of ending ≡ 0
+  done old new ending n e = done_by_files old new ending n (subst (λ (names : Option Names). EndsBy names before after ending) r.named e)
 
 -- the answer is the report then, unless memory ran out
 pub complete : (words : List (List ℕ)) (before after : FilesState) (old new : SinkState) (status : ℕ) → Answers words before after old new status → IsRunnable words before → NothingFailed before after old new
     → OrMemory 6 (λ s. s ≡ 0) status
 complete words before after old new status (reported text e w) r n = inr refl
-complete words before after old new status (usage e w) r n = absurd (e r.edl r.script r.names)
-complete words before after old new status (edl_fault name fault (a, b, p, h) w) r n = inr (done_by_names words before after old new (Edl name fault) r n a b p h)
-complete words before after old new status (script_fault name line code (a, b, p, h) w) r n = inr (done_by_names words before after old new (Script name line code) r n a b p h)
-complete words before after old new status (unread name (a, b, p, h) w) r n = inr (done_by_names words before after old new (Unread name) r n a b p h)
+complete words before after old new status (usage e w) r n = inr (done words before after r old new Usage n e)
+complete words before after old new status (edl_fault name fault e w) r n = inr (done words before after r old new (Edl name fault) n e)
+complete words before after old new status (script_fault name line code e w) r n = inr (done words before after r old new (Script name line code) n e)
+complete words before after old new status (unread name e w) r n = inr (done words before after r old new (Unread name) n e)
 complete words before after old new status (refused part failed) r n = absurd (n.taken failed)
 complete words before after old new status (out_of_memory part) r n = inl refl
-complete words before after old new status (missing name (a, b, p, h) w) r n = inr (done_by_names words before after old new (Missing name) r n a b p h)
-complete words before after old new status (full limit (a, b, p, h) w) r n = inr (done_by_names words before after old new (Cut limit) r n a b p h)
+complete words before after old new status (missing name e w) r n = inr (done words before after r old new (Missing name) n e)
+complete words before after old new status (full limit e w) r n = inr (done words before after r old new (Cut limit) n e)
 
--- two words are those at the places 0 and 1
+-- ---- words at their places
+
 pub two_words : (words : List (List ℕ)) (a b : List ℕ) → a ≡ get_or words 0 a → b ≡ get_or words 1 b → 2 ≤ length words → length words < 3 → words ≡ a ∷ b ∷ []
 two_words [] a b p q least most = absurd (omega arith)
 two_words (x ∷ []) a b p q least most = absurd (omega arith)
@@ -111,5 +90,38 @@ two_words (x ∷ y ∷ []) a b p q least most =
     let one : a ≡ x = p in let two : b ≡ y = q in ap (λ (t : List ℕ). t ∷ y ∷ []) (sym one) ∙ ap (λ (t : List ℕ). a ∷ t ∷ []) (sym two)
 two_words (x ∷ y ∷ z ∷ rest) a b p q least most = absurd (omega arith)
 
-pub two_names : (words : List (List ℕ)) (a b x y : List ℕ) → a ≡ get_or words 0 a → b ≡ get_or words 1 b → 2 ≤ length words → length words < 3 → x ≡ a → y ≡ b → words ≡ x ∷ y ∷ []
-two_names words a b x y p q least most s t = two_words words a b p q least most ∙ ap (λ (u : List ℕ). u ∷ b ∷ []) (sym s) ∙ ap (λ (u : List ℕ). x ∷ u ∷ []) (sym t)
+pub four_words : (words : List (List ℕ)) (a b c d : List ℕ) → a ≡ get_or words 0 a → b ≡ get_or words 1 b → c ≡ get_or words 2 c → d ≡ get_or words 3 d
+    → 4 ≤ length words → length words < 5 → words ≡ a ∷ b ∷ c ∷ d ∷ []
+four_words [] a b c d p q r s least most = absurd (omega arith)
+four_words (w ∷ []) a b c d p q r s least most = absurd (omega arith)
+four_words (w ∷ x ∷ []) a b c d p q r s least most = absurd (omega arith)
+four_words (w ∷ x ∷ y ∷ []) a b c d p q r s least most = absurd (omega arith)
+four_words (w ∷ x ∷ y ∷ z ∷ []) a b c d p q r s least most =
+    let one : a ≡ w = p in let two : b ≡ x = q in let three : c ≡ y = r in let four : d ≡ z = s in
+    ap (λ (t : List ℕ). t ∷ x ∷ y ∷ z ∷ []) (sym one) ∙ ap (λ (t : List ℕ). a ∷ t ∷ y ∷ z ∷ []) (sym two)
+    ∙ ap (λ (t : List ℕ). a ∷ b ∷ t ∷ z ∷ []) (sym three) ∙ ap (λ (t : List ℕ). a ∷ b ∷ c ∷ t ∷ []) (sym four)
+four_words (w ∷ x ∷ y ∷ z ∷ v ∷ rest) a b c d p q r s least most = absurd (omega arith)
+
+-- words of another count name no files
+pub no_names : (words : List (List ℕ)) → (length words ≡ 2 → ⊥) → (length words ≡ 4 → ⊥) → names_of words ≡ None
+no_names [] two four = refl
+no_names (w ∷ []) two four = refl
+no_names (w ∷ x ∷ []) two four = absurd (two refl)
+no_names (w ∷ x ∷ y ∷ []) two four = refl
+no_names (w ∷ x ∷ y ∷ z ∷ []) two four = absurd (four refl)
+no_names (w ∷ x ∷ y ∷ z ∷ v ∷ rest) two four = refl
+
+-- a call that ends by what two words name ends so by words that name the same
+pub ends_by : (words : List (List ℕ)) (names : Option Names) (before after : FilesState) (result : Result Ending AllocError) → names_of words ≡ names
+    → IfOk result (EndsBy names before after) → IfOk result (Ends words before after)
+ends_by words names before after result same h = subst (λ (n : Option Names). IfOk result (EndsBy n before after)) (sym same) h
+
+-- the same where a search path stands before them
+pub names_by_path : (words : List (List ℕ)) (option path edl script : List ℕ) → words ≡ option ∷ path ∷ edl ∷ script ∷ [] → bytes_eq option (codes "--search-path") ≡ true
+    → names_of words ≡ named (directories path) edl script
+names_by_path words option path edl script four is = ap names_of four ∙ ap (λ (b : Bool). if b then named (directories path) edl script else None) is
+
+-- another option before them
+pub names_by_other : (words : List (List ℕ)) (option path edl script : List ℕ) → words ≡ option ∷ path ∷ edl ∷ script ∷ [] → bytes_eq option (codes "--search-path") ≡ false
+    → names_of words ≡ None
+names_by_other words option path edl script four is = ap names_of four ∙ ap (λ (b : Bool). if b then named (directories path) edl script else None) is

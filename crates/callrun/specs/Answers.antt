@@ -2,16 +2,16 @@
 use Rattle.std.specs.Prelude.{ℕ, ◌≡◌, ◌⊎◌, List, Some, Ok, Err}
 use Rattle.sgx_base.specs.Lines.{edl_line, script_line, unread_line, missing_line}
 use Rattle.sgx_base.specs.Sinks.{SinkState, SinkFailed, Wrote, WrotePart}
-use Rattle.sgx_base.specs.Stores.{Store, FilesState, ReadFailed, Missed}
+use Rattle.sgx_base.specs.Stores.{Store, FilesState, ReadFailed}
 use Rattle.sgx_base.specs.declared.Fault.{Fault}
 use Rattle.word_port.specs.declared.RunFull.{RunFull}
 use Rattle.call_machine.specs.declared.Machine.{Machine}
 use Rattle.call_machine.specs.Reported.{IsCutBy}
-use Rattle.call_engine.specs.declared.preparing.PrepareFault.{PrepareFault}
+use Rattle.call_engine.specs.declared.faults.PrepareFault.{PrepareFault}
 use Rattle.call_engine.specs.Prepared.{Prepares}
 use Rattle.callrun.specs.declared.Ending.{Ending}
 use Rattle.callrun.specs.declared.Ending.TheVariants.{Usage, Edl, Script, Unread, Missing, Reported, Cut}
-use Rattle.callrun.specs.Endings.{AreNames, Ends, text_of, usage_line, full_line}
+use Rattle.callrun.specs.Endings.{Names, names_of, Ends, text_of, usage_line, full_line}
 
 -- the call came to an ending, with its cause, and of the text of it a part was written
 pub record IsBroken (words : List (List ℕ)) (before after : FilesState) (old new : SinkState) : Type 0 where
@@ -39,16 +39,15 @@ pub data Answers (words : List (List ℕ)) (before after : FilesState) (old new 
 
 -- the words name files that are told, have no fault, and give a machine whose run no limit cuts
 pub record IsRunnable (words : List (List ℕ)) (files : FilesState) : Type 0 where
-  pub edl : List ℕ
-  pub script : List ℕ
-  pub names : AreNames words edl script
+  pub names : Names
+  pub named : names_of words ≡ Some names
   pub store : Store
   pub told : files.contents ≡ Some store
-  pub faultless : (fault : PrepareFault) → ¬ Prepares store edl script (Err fault)
-  pub uncut : (m : Machine) (limit : RunFull) → Prepares store edl script (Ok m) → ¬ IsCutBy m limit
+  pub faultless : (fault : PrepareFault) → ¬ Prepares store names.paths names.edl names.script (Err fault)
+  pub uncut : (m : Machine) (limit : RunFull) → Prepares store names.paths names.edl names.script (Ok m)
+      → ¬ IsCutBy m limit
 
--- no read failed, no name was missed, and the sink took what was written
+-- no read failed, and the sink took what was written
 pub record NothingFailed (before after : FilesState) (old new : SinkState) : Type 0 where
   pub read : ¬ ReadFailed before after
-  pub found : ¬ Missed before after
   pub taken : ¬ SinkFailed old new

@@ -1,12 +1,12 @@
 //! The top call of the runner: from words and files to one text and a status.
 #![tactic(auto)]
 
-ghost use Rattle.std.specs.Prelude.{ℕ, List, ◌≡◌, IfOk, OnOk, OnErr};
+ghost use Rattle.std.specs.Prelude.{ℕ, List, ◌≡◌, IfOk, OnOk};
 ghost use Rattle.sgx_base.specs.Outcome.{OrMemory};
 ghost use Rattle.sgx_base.specs.Stores.{FilesState, AreOnlyRead};
 ghost use Rattle.call_engine.specs.Prepared.{IsUnprepared};
 ghost use Rattle.callrun.specs.Endings as spec;
-ghost use Rattle.callrun.specs.Endings.{HasCause, Ends};
+ghost use Rattle.callrun.specs.Endings.{Names, HasCause, EndsBy, Ends};
 ghost use Rattle.callrun.specs.Answers.{Answers, IsRunnable, NothingFailed};
 
 use call_engine::{PrepareFault, RunFault, prepare, run_machine};
@@ -24,10 +24,12 @@ const REFUSED: u8 = 5;
 /// The status where memory runs out.
 pub const MEMORY: u8 = 6;
 
+const USAGE: &[u8] = b"usage: sgx_callrun [--search-path P] FILE SCRIPT\n";
+
 /// How a call ends.
 #[derive(Debug, Drop)]
 enum Ending {
-    /// The words are not two names.
+    /// The words name no files.
     Usage,
     /// The EDL file of this name is at fault.
     Edl { name: Name, fault: Fault },
@@ -70,7 +72,7 @@ fn text_of(alloc: Global, ending: &Ending) -> Result<Vec<u8>, AllocError>
     ensures { IfOk result (λ text. text.items ≡ spec.text_of ending.now) }
 {
     match ending {
-        Ending::Usage => Vec::from_slice(alloc, b"usage: sgx_callrun FILE SCRIPT\n"),
+        Ending::Usage => Vec::from_slice(alloc, USAGE),
         Ending::Edl { name, fault } => edl_line(alloc, name, fault),
         Ending::Script { name, line, code } => script_line(alloc, name, *line, *code),
         Ending::Unread(name) => unread_line(alloc, name),
@@ -82,9 +84,9 @@ fn text_of(alloc: Global, ending: &Ending) -> Result<Vec<u8>, AllocError>
 
 /// The ending where there is no machine.
 fn ending_of(alloc: Global, script: &str, fault: PrepareFault) -> Result<Ending, AllocError>
-    ensures { (edl : List ℕ) (before after : FilesState)
-        → OrMemory PrepareFault.Memory (IsUnprepared edl script.now before after) fault
-        → IfOk result (HasCause edl script.now before after) }
+    ensures { (paths : List (List ℕ)) (edl : List ℕ) (before after : FilesState)
+        → OrMemory PrepareFault.Memory (IsUnprepared paths edl script.now before after) fault
+        → IfOk result (HasCause (record { paths = paths; edl = edl; script = script.now }) before after) }
 {
     match fault {
         PrepareFault::Edl { name, fault } => Ok(Ending::Edl { name, fault }),
@@ -98,18 +100,21 @@ fn ending_of(alloc: Global, script: &str, fault: PrepareFault) -> Result<Ending,
     }
 }
 
-/// Runs the script of one name on the EDL file of another.
+/// Runs the script of one name on the EDL file of another, which imports by this search path.
 #[tactic(auto, using(run_laws::proofs::Runs::report_protected))]
 fn run_files<F: Files>(
     alloc: Global,
     files: &mut F,
+    paths: &[Word],
     edl: &str,
     script: &str,
 ) -> Result<Ending, AllocError>
-    ensures cause { IfOk result (HasCause edl.now script.now (F.state files.old) (F.state files.new)) }
+    ensures cause { IfOk result (HasCause
+        (record { paths = paths.now; edl = edl.now; script = script.now })
+        (F.state files.old) (F.state files.new)) }
     ensures kept { AreOnlyRead (F.state files.old) (F.state files.new) }
 {
-    let machine = match prepare(alloc, files, &[], edl, script, false) {
+    let machine = match prepare(alloc, files, paths, edl, script, false) {
         Ok(machine) => machine,
         Err(fault) => return ending_of(alloc, script, fault),
     };
@@ -120,13 +125,47 @@ fn run_files<F: Files>(
     }
 }
 
+/// The same of two words, which are names where neither is an option.
+fn run_named<F: Files>(
+    alloc: Global,
+    files: &mut F,
+    paths: &[Word],
+    edl: &Word,
+    script: &Word,
+) -> Result<Ending, AllocError>
+    ensures cause { IfOk result (EndsBy (spec.named paths.now edl.now script.now)
+        (F.state files.old) (F.state files.new)) }
+    ensures kept { AreOnlyRead (F.state files.old) (F.state files.new) }
+{
+    if is_option(edl) || is_option(script) {
+        return Ok(Ending::Usage);
+    }
+    run_files(alloc, files, paths, edl.text(), script.text())
+}
+
+/// The directories of a search path, which colons part.
+fn directories_of(alloc: Global, path: &str) -> Result<Items<Word>, AllocError>
+    ensures { IfOk result (λ paths. paths ≡ spec.directories path.now) }
+{
+    let mut directories = Items::new(alloc);
+    for directory in path.split(':') {
+        directories.push(Word::new(alloc, directory)?)?;
+    }
+    Ok(directories)
+}
+
 fn run_words<F: Files>(alloc: Global, words: &[Word], files: &mut F) -> Result<Ending, AllocError>
     ensures cause { IfOk result (Ends words.now (F.state files.old) (F.state files.new)) }
     ensures kept { AreOnlyRead (F.state files.old) (F.state files.new) }
 {
     match words {
-        [edl, script] if !is_option(edl) && !is_option(script) => {
-            run_files(alloc, files, edl.text(), script.text())
+        [edl, script] => run_named(alloc, files, &[], edl, script),
+        [option, path, edl, script] => {
+            if option.text() != "--search-path" {
+                return Ok(Ending::Usage);
+            }
+            let paths = directories_of(alloc, path.text())?;
+            run_named(alloc, files, paths.as_slice(), edl, script)
         }
         _ => Ok(Ending::Usage),
     }
@@ -146,6 +185,7 @@ fn status_after(status: u8, written: Result<(), SinkFault>) -> u8
 }
 
 /// Runs a script on an EDL file, whose names the words are, and writes the report by one call, or why there is none.
+/// Before the names there may be `--search-path` and the directories of imported files, which colons part.
 ///
 /// Gives the status: 0 where the run is done, 1 for other words, 2 for a fault of the EDL file and 3 for one of the
 /// script, 4 for a file that could not be read and 7 for one that is not there, 5 where the sink refuses, 6 where

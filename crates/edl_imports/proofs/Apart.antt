@@ -1,27 +1,19 @@
 -- Where no name conflicts, types of one name stand in one file.
-use Rattle.std.proofs.Common.{ℕ, zero, suc, ◌≡◌, ◌⊎◌, inl, inr, ◌<◌, Bool, true, false, ◌&&◌, nat_lt, List, [], ◌∷◌, ◌++◌, map, Option, Some, None, Ok, Err, Result, refl, sym, ap, ◌∙◌, subst, arith}
-use Rattle.std.specs.Prelude.{Contains, All, OnOk, filter_map, option_map, if◌then◌else◌}
+use Rattle.std.proofs.Common.{ℕ, zero, suc, ◌≡◌, ◌⊎◌, inl, inr, ◌<◌, Bool, true, false, ◌&&◌, nat_lt, List, [], ◌∷◌, map, Option, Some, None, refl, sym, ap, ◌∙◌, subst, arith}
+use Rattle.std.specs.Prelude.{Contains, filter_map, option_map, if◌then◌else◌}
 use Rattle.std.specs.List.{cons_option}
 use Rattle.std.specs.Str.{bytes_eq}
-use Rattle.std.proofs.lemmas.List.Elements.{All-same, All-push, Contains-append_cases, Contains-append_left, Contains-append_right}
+use Rattle.std.proofs.lemmas.List.Elements.{Contains-append_cases, Contains-append_left, Contains-append_right}
 use Rattle.std.proofs.lemmas.List.Folds.{list_any-from_Any}
 use Rattle.std.proofs.lemmas.Bool.{lt-ltb}
 use Rattle.std.proofs.lemmas.Slice.Eq.{bytes_eq-Decides}
-use Rattle.edl_lexer.specs.Lexing.{lexing}
-use Rattle.edl_lexer.specs.declared.Token.{Token}
-use Rattle.edl_lexer.specs.declared.LexFault.{LexFault}
-use Rattle.edl_grammar.specs.declared.EdlFile.{EdlFile}
 use Rattle.edl_grammar.specs.declared.Gathered.{Gathered}
-use Rattle.edl_grammar.specs.declared.ParseFault.{ParseFault}
 use Rattle.edl_grammar.specs.declared.SourceFile.{SourceFile}
 use Rattle.edl_grammar.specs.declared.TypeDecl.{TypeDecl}
 use Rattle.edl_grammar.specs.Files.{TypeIn, types_of, types_from as declared_from, name_of, token_of}
-use Rattle.edl_grammar.specs.Parser.{parsing}
 use Rattle.edl_imports.specs.declared.conflicts.Known.{Known}
-use Rattle.edl_imports.specs.declared.search.NewFile.{NewFile}
 use Rattle.edl_imports.specs.Conflicts.{Place, type_known, types_from, types_known, functions_known, is_second, earlier, first_second, first_conflict}
-use Rattle.edl_imports.specs.Gathering.{read_tree, read_tokens, read_source}
-use Rattle.edl_imports.specs.Apart.{IsSource, TypesAreApart}
+use Rattle.edl_imports.specs.Apart.{TypesAreApart}
 
 -- ---- none is second
 
@@ -97,24 +89,3 @@ types_apart g none = record {
       let other = not_before g none name b a q p y x in
       omega (arith, one, other);
 }
-
--- ---- sources
-
-pub source_read : (number : ℕ) (f : NewFile) (source : SourceFile) → read_source number f ≡ Ok source → IsSource source
-source_read number f source h = by (lexing number f.bytes) refl h
-  where
-    by_tree : (tokens : List Token) → lexing number f.bytes ≡ Ok tokens → (r : Result EdlFile ParseFault) → parsing number f.bytes tokens ≡ r → read_tree f.name tokens r ≡ Ok source → IsSource source
-    by_tree tokens l (Err e) p h = absurd cc
-    by_tree tokens l (Ok tree) p h =
-        let same : record { name = f.name; tokens = tokens; tree = tree } ≡ source = cc in
-        subst IsSource same (record { number = number; bytes = f.bytes; lexed = l; parsed = p })
-
-    by : (r : Result (List Token) LexFault) → lexing number f.bytes ≡ r → read_tokens number f r ≡ Ok source → IsSource source
-    by (Err e) l h = absurd cc
-    by (Ok tokens) l h = by_tree tokens l (parsing number f.bytes tokens) refl h
-
--- a source, and what was read behind it
-pub read_behind : {A B : Type 0} (files pushed after : List SourceFile) (source : SourceFile) (result : Result A B) → pushed ≡ files ++ source ∷ [] → IsSource source
-    → OnOk result (All IsSource pushed → All IsSource after) → OnOk result (All IsSource files → All IsSource after)
-read_behind files pushed after source (Err e) is read h = tt
-read_behind files pushed after source (Ok a) is read h = λ all. h (All-same IsSource pushed (files ++ source ∷ []) is (All-push IsSource files source all read))

@@ -2,7 +2,11 @@ pub mod Candidates
 pub mod Steps
 pub mod Reading
 pub mod Importing
+pub mod Tables
 pub mod Turns
 pub mod Apart
+pub mod Coming
 pub mod AloneLaws
 pub mod ReachLaws
+pub mod TakenLaws
+pub mod CycleLaws

@@ -27,7 +27,7 @@ use Rattle.edl_imports.specs.Laws.{IsNamed, AreReached, EachIsReached}
 use Rattle.edl_imports.proofs.Importing.{in_front, front_then, there_pushed}
 
 -- a step that went well, and what it gave
-bind_ok : {A B : Type 0} (x : Outcome A) (f : A → Outcome B) (b : B) → (x >>= f) ≡ Ok b → (a : A) × (x ≡ Ok a) × (f a ≡ Ok b)
+pub bind_ok : {A B : Type 0} (x : Outcome A) (f : A → Outcome B) (b : B) → (x >>= f) ≡ Ok b → (a : A) × (x ≡ Ok a) × (f a ≡ Ok b)
 bind_ok (Ok a) f b h = (a, refl, h)
 bind_ok (Err e) f b h = absurd cc
 
@@ -179,7 +179,7 @@ module _ (paths : List (List ℕ)) where
     gather_keeps zero p f q offer h all follows = absurd cc
     gather_keeps (suc depth) p f q offer h all follows = file_keeps depth (gather_keeps depth) p f q offer h all follows
 
-conflict_same : (g k : Gathered) (at : Option Place) → unless_conflict g at ≡ Ok k → g ≡ k
+pub conflict_same : (g k : Gathered) (at : Option Place) → unless_conflict g at ≡ Ok k → g ≡ k
 conflict_same g k None h = cc
 conflict_same g k (Some at) h = absurd cc
 

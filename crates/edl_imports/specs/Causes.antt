@@ -44,3 +44,8 @@ IsMissing text found (Fault e) = e.cause ≡ NotFound → (found ≡ None) × (e
 abbrev pub IsReadStop : FilesState → FilesState → Stop → Type 0
 IsReadStop before after out_of_memory = Unit {0}
 IsReadStop before after (Fault e) = (e.cause ≡ ReadFault) × ReadFailed before after
+
+-- the fault has this name
+abbrev pub IsNamed : List ℕ → Stop → Type 0
+IsNamed name out_of_memory = Unit {0}
+IsNamed name (Fault e) = e.name ≡ name

@@ -2,7 +2,9 @@ pub mod Search
 pub mod Offers
 pub mod Gathering
 pub mod Conflicts
+pub mod Tables
 pub mod Causes
 pub mod Apart
+pub mod ComeTo
 pub mod Examples
 pub mod Laws

@@ -1,11 +1,15 @@
 //! Names that two files declare.
 
-ghost use Rattle.std.specs.Prelude.{◌≡◌, ◌≤◌, ◌<◌, ◌^◌, ◌++◌, OnOk, IfOk, length, filter_map, option_to_list, None};
+ghost use Rattle.std.specs.Prelude.{◌≡◌, ◌≤◌, ◌<◌, ◌^◌, ◌++◌, OnOk, IfOk, List, length, filter_map, option_to_list, None};
 ghost use Rattle.edl_grammar.specs.Files as grammar;
 ghost use Rattle.edl_imports.specs.Conflicts as spec;
+ghost use Rattle.edl_imports.specs.Tables as tables;
+ghost use Rattle.edl_imports.specs.Tables.{TellsFiles};
+ghost use Rattle.edl_imports.specs.declared.conflicts.Known.{Known as AKnown};
 
 use crate::offers::picked;
 use edl_grammar::{Gathered, Pick, SourceFile, TypeDecl};
+use indexmap::IndexMap;
 use sgx_base::Name;
 use sqlite_items::Items;
 use std::alloc::{AllocError, Global};
@@ -136,12 +140,43 @@ fn functions_known(alloc: Global, gathered: &Gathered) -> Result<Items<Known>, A
     Ok(known)
 }
 
-/// Whether one of the same name stands in a file that was read before.
-fn is_second(all: &[Known], known: &Known) -> bool
-    ensures { result ≡ spec.is_second all.now known.now }
+/// The earlier of two files, where there are two.
+fn earlier_file(first: Option<u32>, file: u32) -> u32
+    ensures { result ≡ tables.earlier_file first file }
 {
-    all.iter().any(|other| other.at.file < known.at.file
-        && other.name.bytes() == known.name.bytes())
+    match first {
+        Some(first) => first.min(file),
+        None => file,
+    }
+}
+
+/// The first file of each name, by table.
+fn first_files<'a>(alloc: Global, all: &'a [Known]) -> Result<IndexMap<&'a [u8], u32>, AllocError>
+    ensures { IfOk result (λ table. TellsFiles table all.now) }
+{
+    let mut table = IndexMap::new(alloc);
+    for known in all {
+        let name = known.name.bytes();
+        let first = table.get(name).copied();
+        table.insert(name, earlier_file(first, known.at.file))?;
+    }
+    Ok(table)
+}
+
+fn is_before_file(first: Option<u32>, file: u32) -> bool
+    ensures { result ≡ tables.is_before_file first file }
+{
+    match first {
+        Some(first) => first < file,
+        None => false,
+    }
+}
+
+/// Whether one of the same name stands in a file that was read before.
+fn is_second(table: &IndexMap<&[u8], u32>, known: &Known) -> bool
+    ensures { (all : List AKnown) → TellsFiles table.now all → result ≡ spec.is_second all known.now }
+{
+    is_before_file(table.get(known.name.bytes()).copied(), known.at.file)
 }
 
 fn is_before(one: Place, other: Place) -> bool
@@ -160,16 +195,21 @@ fn earlier(best: Option<Place>, place: Place) -> Place
 }
 
 /// The first place among those that name a second time, and this one.
-fn first_second(best: Option<Place>, all: &[Known]) -> Option<Place>
-    ensures { result ≡ spec.first_second all.now best all.now }
+fn first_second(
+    alloc: Global,
+    best: Option<Place>,
+    all: &[Known],
+) -> Result<Option<Place>, AllocError>
+    ensures { IfOk result (λ first. first ≡ spec.first_second all.now best all.now) }
 {
+    let table = first_files(alloc, all)?;
     let mut first = best;
     for known in all {
-        if is_second(all, known) {
+        if is_second(&table, known) {
             first = Some(earlier(first, known.at));
         }
     }
-    first
+    Ok(first)
 }
 
 /// The first declaration whose name one of its kind has in a file before.
@@ -182,6 +222,6 @@ pub(crate) fn first_conflict(
 {
     let types = types_known(alloc, gathered.files.as_slice())?;
     let functions = functions_known(alloc, gathered)?;
-    let first = first_second(None, types.as_slice());
-    Ok(first_second(first, functions.as_slice()))
+    let first = first_second(alloc, None, types.as_slice())?;
+    first_second(alloc, first, functions.as_slice())
 }

@@ -1,17 +1,18 @@
 //! Files and their imports, each file once.
 
-ghost use Rattle.std.specs.Prelude.{◌≡◌, ◌≤◌, ◌<◌, ◌+◌, ◌==◌, ℕ, List, All, Some, Ok, find, length, slice_get};
+ghost use Rattle.std.specs.Prelude.{◌≡◌, ◌≤◌, ◌<◌, ◌+◌, ◌==◌, ℕ, List, Option, All, Some, Ok, find, length, slice_get};
 ghost use Rattle.std.specs.Prelude.{option_map, IfOk, IfErr, IfSome, OnOk};
 ghost use Rattle.sgx_base.specs.Outcome.{OrMemory};
-ghost use Rattle.sgx_base.specs.Stores.{AreOnlyRead, max_file_size};
+ghost use Rattle.sgx_base.specs.Stores.{AreOnlyRead, Holds, Store, max_file_size};
 ghost use Rattle.edl_lexer.specs.Bounds.{LieIn};
 ghost use Rattle.edl_lexer.specs.Lexing.{lexing};
 ghost use Rattle.edl_grammar.specs.Files as grammar;
 ghost use Rattle.edl_grammar.specs.Parser.{parsing};
 ghost use Rattle.edl_grammar.specs.declared.SourceFile.{SourceFile as ASourceFile};
 ghost use Rattle.edl_grammar.specs.declared.Import.{Import as AnImport};
-ghost use Rattle.edl_imports.specs.Apart.{IsSource, TypesAreApart};
+ghost use Rattle.edl_imports.specs.Apart.{TypesAreApart};
 ghost use Rattle.edl_imports.specs.Causes.{IsStop, IsStopOf, IsMissing};
+ghost use Rattle.edl_imports.specs.ComeTo.{IsComeTo, IsReached, IsStopNamed, Comes, Finds};
 ghost use Rattle.edl_imports.specs.Conflicts.{first_conflict as conflict_in};
 ghost use Rattle.edl_imports.specs.Search.{IsSmall};
 ghost use Rattle.edl_imports.specs.Offers as offers;
@@ -217,7 +218,7 @@ impl Importing<'_> {
             let place = self.place(token, 9);
             return Err(self.fault(alloc, ImportCause::NoSuchName(place)));
         }
-        offer.join_names(files, offered, names)?;
+        offer.join_names(alloc, files, offered, names)?;
         Ok(())
     }
 
@@ -237,7 +238,7 @@ impl Importing<'_> {
         match &self.import.names {
             Some(names) => self.take_names(alloc, files, offered, names.as_slice(), offer),
             None => {
-                offer.join(offered)?;
+                offer.join(alloc, offered)?;
                 Ok(())
             }
         }
@@ -258,6 +259,8 @@ impl Importing<'_> {
         ensures small { IfOk result (λ found. IsSmall (Some found)) }
         ensures err { IfErr result (IsStop paths.now (F.state files.old) (F.state files.new) (λ store. spec.wanted store
             paths.now self.now.number self.now.source.now read.now self.now.import.now)) }
+        ensures finds { Finds (F.state files.old).contents paths.now self.now.source.now.name self.now.import.now.text
+            result }
         ensures kept { AreOnlyRead (F.state files.old) (F.state files.new) }
     {
         let found = found_file(alloc, files, paths, read, self.import.text.bytes())?;
@@ -342,6 +345,8 @@ fn wanted_at<F: Files>(
     ensures err { (source : ASourceFile) (i : AnImport) → IsImport read.now at source i
         → IfErr result (IsStop paths.now (F.state files.old) (F.state files.new)
         (λ store. spec.wanted store paths.now at.file source read.now i)) }
+    ensures finds { (source : ASourceFile) (i : AnImport) → IsImport read.now at source i
+        → Finds (F.state files.old).contents paths.now source.name i.text result }
     ensures kept { AreOnlyRead (F.state files.old) (F.state files.new) }
 {
     let importing = import_at(read, at);
@@ -371,7 +376,9 @@ fn reached<F: Files>(
         i)) }
     ensures front { OnOk result (IsFront progress.old.files progress.new.files) }
     ensures few { OnOk result (length progress.new.files ≤ 64) }
-    ensures read { OnOk result (All IsSource progress.old.files → All IsSource progress.new.files) }
+    ensures come { (contents : Option Store) (root : List ℕ) → (F.state files.old).contents ≡ contents
+        → All (IsReached contents paths.now root) progress.old.files
+        → Comes contents paths.now root progress.new.files result }
     ensures kept { AreOnlyRead (F.state files.old) (F.state files.new) }
 {
     match wanted_at(alloc, files, paths, progress.files.as_slice(), at)? {
@@ -408,7 +415,9 @@ fn import_all<F: Files>(
         (offers.own number source.tree) source.tree.imports)) }
     ensures front { OnOk result (IsFront progress.old.files progress.new.files) }
     ensures few { OnOk result (length progress.new.files ≤ 64) }
-    ensures read { OnOk result (All IsSource progress.old.files → All IsSource progress.new.files) }
+    ensures come { (contents : Option Store) (root : List ℕ) → (F.state files.old).contents ≡ contents
+        → All (IsReached contents paths.now root) progress.old.files
+        → Comes contents paths.now root progress.new.files result }
     ensures kept { AreOnlyRead (F.state files.old) (F.state files.new) }
 {
     let (count, mut offer) = begin(alloc, progress.files.as_slice(), number)?;
@@ -442,7 +451,10 @@ fn gather_file<F: Files>(
         (λ store. spec.gather_within store paths.now depth progress.old new)) }
     ensures front { OnOk result (IsFront progress.old.files progress.new.files) }
     ensures few { OnOk result (length progress.new.files ≤ 64) }
-    ensures read { OnOk result (All IsSource progress.old.files → All IsSource progress.new.files) }
+    ensures come { (contents : Option Store) (root : List ℕ) → (F.state files.old).contents ≡ contents
+        → All (IsReached contents paths.now root) progress.old.files → IsComeTo contents paths.now root new.name
+        → IfSome contents (λ store. store new.name ≡ Some new.bytes)
+        → Comes contents paths.now root progress.new.files result }
     ensures kept { AreOnlyRead (F.state files.old) (F.state files.new) }
 {
     let number = progress.files.len() as u32;
@@ -457,6 +469,10 @@ fn root_file<F: Files>(alloc: Global, files: &mut F, root: &str) -> Result<NewFi
     ensures small { IfOk result (λ f. length f.bytes ≤ max_file_size) }
     ensures err { (paths : List (List ℕ)) → IfErr result (IsStop paths (F.state files.old) (F.state files.new)
         (λ store. spec.root_bytes root.now (store root.now))) }
+    ensures name { IfOk result (λ f. f.name ≡ root.now) }
+    ensures held { IfOk result (λ f. Holds (F.state files.old) root.now (Some f.bytes)) }
+    ensures named { (paths : List (List ℕ)) → IfErr result
+        (IsStopNamed (F.state files.old).contents paths root.now) }
     ensures kept { AreOnlyRead (F.state files.old) (F.state files.new) }
 {
     match read_new(alloc, files, root)? {
@@ -520,7 +536,9 @@ fn gather_all<F: Files>(
     ensures ok { IfOk result (λ g. IfSome (F.state files.old).contents
         (λ store. spec.all_of store paths.now root.now ≡ Ok g)) }
     ensures few { IfOk result (λ g. length g.files ≤ 64) }
-    ensures read { IfOk result (λ g. All IsSource g.files) }
+    ensures read { IfOk result
+        (λ g. All (IsReached (F.state files.old).contents paths.now root.now) g.files) }
+    ensures named { IfErr result (IsStopNamed (F.state files.old).contents paths.now root.now) }
     ensures err { IfErr result (IsStop paths.now (F.state files.old) (F.state files.new)
         (λ store. spec.all_of store paths.now root.now)) }
     ensures kept { AreOnlyRead (F.state files.old) (F.state files.new) }
@@ -553,7 +571,9 @@ pub(crate) fn gather_root<F: Files>(
     ensures ok { IfOk result (λ g. IfSome (F.state files.old).contents
         (λ store. spec.gathering store paths.now root.now ≡ Ok g)) }
     ensures few { IfOk result (λ g. length g.files ≤ 64) }
-    ensures read { IfOk result (λ g. All IsSource g.files) }
+    ensures read { IfOk result
+        (λ g. All (IsReached (F.state files.old).contents paths.now root.now) g.files) }
+    ensures named { IfErr result (IsStopNamed (F.state files.old).contents paths.now root.now) }
     ensures apart { IfOk result TypesAreApart }
     ensures err { IfErr result (IsStop paths.now (F.state files.old) (F.state files.new)
         (λ store. spec.gathering store paths.now root.now)) }

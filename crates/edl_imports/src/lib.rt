@@ -3,11 +3,13 @@
 
 ghost use Rattle.std.specs.Prelude.{◌≡◌, ◌≤◌, [], All, length, IfOk, IfErr, IfSome, Ok};
 ghost use Rattle.sgx_base.specs.Stores.{AreOnlyRead};
-ghost use Rattle.edl_imports.specs.Apart.{IsSource, TypesAreApart};
+ghost use Rattle.edl_imports.specs.Apart.{TypesAreApart};
 ghost use Rattle.edl_imports.specs.Causes.{IsFault};
+ghost use Rattle.edl_imports.specs.ComeTo.{IsNameOf, IsReached};
 ghost use Rattle.edl_imports.specs.Examples.{Examples};
 ghost use Rattle.edl_imports.specs.Gathering.{gathering};
-ghost use Rattle.edl_imports.specs.Laws.{IsAlone, OwnImportIsCycle, EachIsReached};
+ghost use Rattle.edl_imports.specs.Laws.{IsAlone, OwnImportIsCycle, CycleIsRefused, EachIsReached};
+ghost use Rattle.edl_imports.specs.Laws.{EachIsTakenOnce, FirstPlaceStays, TypesStandApart};
 
 mod conflicts;
 mod faults;
@@ -44,7 +46,10 @@ pub fn gather<F: Files>(
     ensures err { IfErr result
         (IsFault paths.now (F.state files.old) (F.state files.new) (λ store. gathering store paths.now root.now)) }
     ensures few { IfOk result (λ g. length g.files ≤ 64) }
-    ensures read { IfOk result (λ g. All IsSource g.files) }
+    ensures read { IfOk result
+        (λ g. All (IsReached (F.state files.old).contents paths.now root.now) g.files) }
+    ensures named { IfErr result
+        (λ e. IsNameOf (F.state files.old).contents paths.now root.now e.cause e.name) }
     ensures apart { IfOk result TypesAreApart }
     ensures kept { AreOnlyRead (F.state files.old) (F.state files.new) }
 {
@@ -73,4 +78,20 @@ pub fn own_import_law()
 /// Every file that is gathered is reached from the root by imports.
 pub fn reached_law()
     ensures { EachIsReached }
+{}
+
+/// A cycle of imports is refused at the import that closes it, whatever its length.
+pub fn cycle_law()
+    ensures { CycleIsRefused }
+{}
+
+/// Each function is taken once, and keeps its first place.
+pub fn taken_law()
+    ensures once { EachIsTakenOnce }
+    ensures place { FirstPlaceStays }
+{}
+
+/// Types of one name stand in one file.
+pub fn apart_law()
+    ensures { TypesStandApart }
 {}

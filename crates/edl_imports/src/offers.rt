@@ -3,8 +3,10 @@
 ghost use Rattle.std.specs.Prelude.{◌≡◌, ◌<◌, ◌^◌, ℕ, Bool, OnOk, IfOk, fold, option_map, length};
 ghost use Rattle.std.specs.List.{list_any};
 ghost use Rattle.edl_imports.specs.Offers as spec;
+ghost use Rattle.edl_imports.specs.Tables.{TellsPicks, TellsOffer};
 
 use edl_grammar::{EdlFile, FuncDecl, NameAt, Pick, SourceFile};
+use indexmap::IndexSet;
 use sqlite_items::Items;
 use std::alloc::{AllocError, Global};
 
@@ -50,27 +52,38 @@ pub(crate) fn own(alloc: Global, file: u32, tree: &EdlFile) -> Result<Offer, All
     Ok(Offer { trusted, untrusted })
 }
 
-fn has_pick(picks: &[Pick], pick: Pick) -> bool
-    ensures { result ≡ spec.has_pick picks.now pick }
+/// The functions of a list by table.
+fn table_of(alloc: Global, picks: &[Pick]) -> Result<IndexSet<(u32, u32)>, AllocError>
+    ensures { IfOk result (λ table. TellsPicks table picks.now) }
 {
-    picks.iter().any(|known| known.file == pick.file && known.index == pick.index)
+    let mut table = IndexSet::new(alloc);
+    for pick in picks {
+        table.insert((pick.file, pick.index))?;
+    }
+    Ok(table)
 }
 
 /// Puts the function to the end, where it is not among them.
-fn add(picks: &mut Items<Pick>, pick: Pick) -> Result<(), AllocError>
-    ensures { OnOk result (picks.new ≡ spec.with_pick picks.old pick) }
+fn add(
+    picks: &mut Items<Pick>,
+    table: &mut IndexSet<(u32, u32)>,
+    pick: Pick,
+) -> Result<(), AllocError>
+    ensures { OnOk result (TellsPicks table.old picks.old
+        → (picks.new ≡ spec.with_pick picks.old pick) × TellsPicks table.new picks.new) }
 {
-    if !has_pick(picks.as_slice(), pick) {
+    if table.insert((pick.file, pick.index))? {
         picks.push(pick)?;
     }
     Ok(())
 }
 
-fn join(picks: &mut Items<Pick>, more: &[Pick]) -> Result<(), AllocError>
+fn join(alloc: Global, picks: &mut Items<Pick>, more: &[Pick]) -> Result<(), AllocError>
     ensures { OnOk result (picks.new ≡ spec.joined picks.old more.now) }
 {
+    let mut table = table_of(alloc, picks.as_slice())?;
     for pick in more {
-        add(picks, *pick)?;
+        add(picks, &mut table, *pick)?;
     }
     Ok(())
 }
@@ -108,35 +121,54 @@ fn join_called(
     is_trusted: bool,
     name: &[u8],
     picks: &mut Items<Pick>,
+    table: &mut IndexSet<(u32, u32)>,
     offered: &[Pick],
 ) -> Result<(), AllocError>
-    ensures { OnOk result
-        (picks.new ≡ spec.joined_where (spec.is_called files.now is_trusted name.now) picks.old offered.now) }
+    ensures { OnOk result (TellsPicks table.old picks.old
+        → (picks.new ≡ spec.joined_where (spec.is_called files.now is_trusted name.now) picks.old offered.now)
+        × TellsPicks table.new picks.new) }
 {
     for pick in offered {
         if is_called(files, is_trusted, name, *pick) {
-            add(picks, *pick)?;
+            add(picks, table, *pick)?;
         }
     }
     Ok(())
 }
 
+/// The functions of an offer by table.
+#[derive(Drop)]
+struct Joined {
+    trusted: IndexSet<(u32, u32)>,
+    untrusted: IndexSet<(u32, u32)>,
+}
+
 impl Offer {
+    fn tables(&self, alloc: Global) -> Result<Joined, AllocError>
+        ensures { IfOk result (λ tables. TellsOffer tables self.now) }
+    {
+        let trusted = table_of(alloc, self.trusted.as_slice())?;
+        let untrusted = table_of(alloc, self.untrusted.as_slice())?;
+        Ok(Joined { trusted, untrusted })
+    }
+
     /// Puts all that is offered behind.
-    pub(crate) fn join(&mut self, offered: &Offer) -> Result<(), AllocError>
+    pub(crate) fn join(&mut self, alloc: Global, offered: &Offer) -> Result<(), AllocError>
         ensures { OnOk result (self.new ≡ spec.both self.old offered.now) }
     {
-        join(&mut self.trusted, offered.trusted.as_slice())?;
-        join(&mut self.untrusted, offered.untrusted.as_slice())
+        join(alloc, &mut self.trusted, offered.trusted.as_slice())?;
+        join(alloc, &mut self.untrusted, offered.untrusted.as_slice())
     }
 
     fn join_name(
         &mut self,
+        tables: &mut Joined,
         files: &[SourceFile],
         offered: &Offer,
         name: &NameAt,
     ) -> Result<(), AllocError>
-        ensures { OnOk result (self.new ≡ spec.with_name files.now offered.now self.old name.now) }
+        ensures { OnOk result (TellsOffer tables.old self.old
+            → (self.new ≡ spec.with_name files.now offered.now self.old name.now) × TellsOffer tables.new self.new) }
     {
         let name = name.name.bytes();
         join_called(
@@ -144,6 +176,7 @@ impl Offer {
             true,
             name,
             &mut self.trusted,
+            &mut tables.trusted,
             offered.trusted.as_slice(),
         )?;
         join_called(
@@ -151,6 +184,7 @@ impl Offer {
             false,
             name,
             &mut self.untrusted,
+            &mut tables.untrusted,
             offered.untrusted.as_slice(),
         )
     }
@@ -158,14 +192,16 @@ impl Offer {
     /// Puts the offered functions of these names behind, in the order of the names.
     pub(crate) fn join_names(
         &mut self,
+        alloc: Global,
         files: &[SourceFile],
         offered: &Offer,
         names: &[NameAt],
     ) -> Result<(), AllocError>
         ensures { OnOk result (self.new ≡ spec.with_names files.now offered.now self.old names.now) }
     {
+        let mut tables = self.tables(alloc)?;
         for name in names {
-            self.join_name(files, offered, name)?;
+            self.join_name(&mut tables, files, offered, name)?;
         }
         Ok(())
     }

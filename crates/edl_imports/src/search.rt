@@ -4,7 +4,8 @@ ghost use Rattle.std.specs.Prelude.{◌≡◌, ◌≤◌, ◌⊎◌, ◌++◌, �
 ghost use Rattle.std.specs.Prelude.{IfOk, IfErr, IfSome, string_bytes};
 ghost use Rattle.std.specs.Str.{bytes_eq};
 ghost use Rattle.sgx_base.specs.Stores.{AreOnlyRead, Holds, Missed, max_file_size};
-ghost use Rattle.edl_imports.specs.Causes.{IsReadStop};
+ghost use Rattle.edl_imports.specs.Causes.{IsReadStop, IsNamed};
+ghost use Rattle.edl_imports.specs.ComeTo.{Asks};
 ghost use Rattle.edl_imports.specs.Search as spec;
 ghost use Rattle.edl_imports.specs.Search.{IsSmall};
 
@@ -55,6 +56,7 @@ pub(crate) fn read_new<F: Files>(
     ensures none { IfOk result (λ found. found ≡ None
         → Holds (F.state files.old) name.now None × Missed (F.state files.old) (F.state files.new)) }
     ensures err { IfErr result (IsReadStop (F.state files.old) (F.state files.new)) }
+    ensures named { IfErr result (IsNamed name.now) }
     ensures kept { AreOnlyRead (F.state files.old) (F.state files.new) }
 {
     match files.read(alloc, name) {
@@ -80,6 +82,7 @@ fn file_of<F: Files>(
     ensures small { IfOk result IsSmall }
     ensures none { IfOk result (λ found. found ≡ None → Missed (F.state files.old) (F.state files.new)) }
     ensures err { IfErr result (IsReadStop (F.state files.old) (F.state files.new)) }
+    ensures asked { Asks (F.state files.old).contents (name.now ∷ []) result }
     ensures kept { AreOnlyRead (F.state files.old) (F.state files.new) }
 {
     if let Some(number) = number_of(read, name.as_bytes()) {
@@ -113,6 +116,7 @@ fn file_under<F: Files>(
         (λ store. spec.first_file store read.now (spec.in_directories (directory.now ∷ []) text.now) ≡ found)) }
     ensures small { IfOk result IsSmall }
     ensures err { IfErr result (IsReadStop (F.state files.old) (F.state files.new)) }
+    ensures asked { Asks (F.state files.old).contents (spec.in_directories (directory.now ∷ []) text.now) result }
     ensures kept { AreOnlyRead (F.state files.old) (F.state files.new) }
 {
     if directory.is_empty() {
@@ -134,6 +138,7 @@ fn file_in<F: Files>(
         (λ store. spec.first_file store read.now (spec.in_directories paths.now text.now) ≡ found)) }
     ensures small { IfOk result IsSmall }
     ensures err { IfErr result (IsReadStop (F.state files.old) (F.state files.new)) }
+    ensures asked { Asks (F.state files.old).contents (spec.in_directories paths.now text.now) result }
     ensures kept { AreOnlyRead (F.state files.old) (F.state files.new) }
 {
     for path in paths {
@@ -159,6 +164,7 @@ pub(crate) fn found_file<F: Files>(
     ensures none { IfOk result (λ found. found ≡ None
         → Missed (F.state files.old) (F.state files.new) ⊎ (spec.candidates paths.now text.now ≡ [])) }
     ensures err { IfErr result (IsReadStop (F.state files.old) (F.state files.new)) }
+    ensures asked { Asks (F.state files.old).contents (spec.candidates paths.now text.now) result }
     ensures kept { AreOnlyRead (F.state files.old) (F.state files.new) }
 {
     let Ok(text) = str::from_utf8(text) else {

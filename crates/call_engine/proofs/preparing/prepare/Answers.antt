@@ -8,7 +8,7 @@ returns-in_err-gathered-clause-err g c = let h = c.in_err-gathered.ensures.err c
 
 pub returns-in_err-text-clause-err : goal.returns-in_err-text-clause-err
 returns-in_err-text-clause-err g c =
-    let h = unread_script c.args.edl.now c.args.script.now c.in_ok-gathered.gathered
+    let h = unread_script c.args.paths.now c.args.edl.now c.args.script.now c.in_ok-gathered.gathered
     (g.F.Files.state c.args.files.now)
     (g.F.Files.state c.read_edl.new.files)
     (g.F.Files.state c.read_file.new.files)
@@ -17,14 +17,14 @@ returns-in_err-text-clause-err g c =
 
 pub returns-clause-ok : goal.returns-clause-ok
 returns-clause-ok g c =
-    prepared c.args.edl.now c.args.script.now c.in_ok-text.text.items c.deref.result.now c.in_ok-gathered.gathered c.machine_of.result
+    prepared c.args.paths.now c.args.edl.now c.args.script.now c.in_ok-gathered.gathered c.in_ok-text.text.items c.deref.result.now c.machine_of.result
     (g.F.Files.state c.args.files.now)
     (g.F.Files.state c.read_edl.new.files)
     c.read_edl.ensures.kept c.deref.ensures.value c.in_ok-gathered.ensures.ok c.in_ok-text.ensures.ok c.machine_of.ensures.ok
 
 pub returns-clause-err : goal.returns-clause-err
 returns-clause-err g c =
-    unprepared c.args.edl.now c.args.script.now c.in_ok-text.text.items c.deref.result.now c.in_ok-gathered.gathered c.machine_of.result
+    unprepared c.args.paths.now c.args.edl.now c.args.script.now c.in_ok-gathered.gathered c.in_ok-text.text.items c.deref.result.now c.machine_of.result
     (g.F.Files.state c.args.files.now)
     (g.F.Files.state c.read_edl.new.files)
     (g.F.Files.state c.read_file.new.files)

@@ -4,7 +4,7 @@ use Rattle.edl_grammar.specs.declared.SourceFile.{SourceFile}
 use Rattle.edl_grammar.specs.declared.Import.{Import}
 use Rattle.edl_imports.specs.declared.gathering.Finished.{Finished}
 use Rattle.edl_imports.specs.Gathering.{IsImport}
-use Rattle.edl_imports.proofs.Apart.{source_read, read_behind}
+use Rattle.edl_imports.proofs.Coming.{source_stops, reached_more, take_stops, reach_stops, reach_new}
 use Rattle.edl_imports.proofs.Steps.{read_twice}
 use Rattle.edl_imports.proofs.Importing.{there_pushed, front_then, front_more, IsBegun, import_there, import_here, import_still}
 use Rattle.edl_imports.proofs.Turns.{file_unread, file_gathered, file_stops, unwanted, known_reached, new_stops, new_reached, turn_stops, turn_refused, turned, all_turned}
@@ -32,11 +32,6 @@ gather_file-returns-clause-err g t c =
     (g.F.Files.state c.args.files.now) (g.F.Files.state c.import_all.new.files) c.in_ok-source.source (record { files = c.push.new.self; finished = c.args.progress.now.finished }) c.import_all.result
     deep c.len-number.ensures c.in_ok-source.ensures.ok (ap (λ (fs : List SourceFile). record { files = fs; finished = c.args.progress.now.finished }) c.in_ok-push.ensures.ok)
     (c.import_all.ensures.err c.in_ok-source.source (there_pushed c.args.progress.now.files c.push.new.self c.in_ok-source.source c.len-number.result c.in_ok-push.ensures.ok c.len-number.ensures))
-
-pub gather_file-returns-clause-read : goal.gather_file-returns-clause-read
-gather_file-returns-clause-read g t c =
-    read_behind c.args.progress.now.files c.push.new.self c.import_all.new.progress.files c.in_ok-source.source c.import_all.result c.in_ok-push.ensures.ok
-    (source_read c.len-number.result c.args.new c.in_ok-source.source c.in_ok-source.ensures.ok) c.import_all.ensures.read
 
 pub import_all-reached-requires : goal.import_all-reached-requires
 import_all-reached-requires g t c κs within =
@@ -83,7 +78,7 @@ import_all-loop-index-preserved g t c = record {
   kept = read_twice (g.F.Files.state c.args.files.now) (g.F.Files.state c.loop-index.files) (g.F.Files.state c.reached.new.files) c.loop-index.invariant.kept c.in_ok-file.ensures.kept;
   front = front_then c.args.progress.now.files c.loop-index.progress.files c.reached.new.progress.files c.loop-index.invariant.front c.in_ok-file.ensures.front;
   few = c.in_ok-file.ensures.few;
-  read = λ h. c.in_ok-file.ensures.read (c.loop-index.invariant.read h);
+  come = λ contents root is all. c.in_ok-file.ensures.come contents root (c.loop-index.invariant.kept.contents ∙ is) (c.loop-index.invariant.come contents root is all);
   same = λ source is.
       let begun = c.in_ok-count.ensures source (ap (λ (fs : List SourceFile). slice_get fs c.args.number) c.as_slice.ensures ∙ is) in
       let here : (i : Import) × IsImport c.loop-index.progress.files (record { file = c.args.number; index = c.loop-index.index }) source i =
@@ -130,3 +125,52 @@ reached-returns-in_ok-push-in-New-clause-ok g t c = λ source i is.
     c.gather_file.new.progress (record { files = c.gather_file.new.progress.files; finished = c.push.new.self }) c.in_ok-offer-in-New.offer c.len-file.result
     c.in_ok-offer-in-New.ensures.ok c.len-file.ensures
     (ap (λ (fs : List Finished). record { files = c.gather_file.new.progress.files; finished = fs }) c.in_ok-push-in-New.ensures.ok)
+
+pub gather_file-returns-in_err-source-clause-come : goal.gather_file-returns-in_err-source-clause-come
+gather_file-returns-in_err-source-clause-come g t c = λ contents root is all come held.
+    let h = source_stops contents c.args.paths.now root c.len-number.result c.args.new c.in_err-source.field-0.0 come c.in_err-source.ensures.err in
+    search rules
+
+pub gather_file-returns-clause-come : goal.gather_file-returns-clause-come
+gather_file-returns-clause-come g t c = λ contents root is all come held.
+    c.import_all.ensures.come contents root is
+    (reached_more contents c.args.paths.now root c.args.progress.now.files c.push.new.self c.len-number.result c.args.new c.in_ok-source.source
+    c.in_ok-push.ensures.ok c.in_ok-source.ensures.ok all come held)
+
+pub import_all-returns-in_err-file-clause-come : goal.import_all-returns-in_err-file-clause-come
+import_all-returns-in_err-file-clause-come g t c = λ contents root is all.
+    let h = c.in_err-file.ensures.come contents root (c.loop-index.invariant.kept.contents ∙ is) (c.loop-index.invariant.come contents root is all) in
+    search rules
+
+pub import_all-returns-in_err-take_from-clause-come : goal.import_all-returns-in_err-take_from-clause-come
+import_all-returns-in_err-take_from-clause-come g t c = λ contents root is all.
+    let begun : IsBegun c.args.progress.now.files c.args.number c.in_ok-count.count c.in_ok-count.offer =
+    λ source h. c.in_ok-count.ensures source (ap (λ (fs : List SourceFile). slice_get fs c.args.number) c.as_slice.ensures ∙ h) in
+    let there = import_there c.args.progress.now.files c.reached.new.progress.files c.args.number c.loop-index.index c.in_ok-count.count c.in_ok-count.offer
+    (front_then c.args.progress.now.files c.loop-index.progress.files c.reached.new.progress.files c.loop-index.invariant.front c.in_ok-file.ensures.front)
+    c.requires.there begun c.loop-index-test.true in
+    let h = take_stops contents c.args.paths.now root c.reached.new.progress.files
+    (c.in_ok-file.ensures.come contents root (c.loop-index.invariant.kept.contents ∙ is) (c.loop-index.invariant.come contents root is all))
+    (record { file = c.args.number; index = c.loop-index.index }) there.source there.«import» there.is
+    c.reached.new.progress c.loop-index.offer c.in_ok-file.file c.in_err-take_from.field-0.0 (c.in_err-take_from.ensures.err there.source there.«import» there.is) in
+    search rules
+
+pub reached-returns-in_err-file-clause-come : goal.reached-returns-in_err-file-clause-come
+reached-returns-in_err-file-clause-come g t c = λ contents root is all.
+    let h = reach_stops c.args.paths.now root (g.F.Files.state c.args.files.now).contents contents is c.args.progress.now.files c.as_slice.result.now c.as_slice.ensures
+    all c.args.at c.requires.there c.in_err-file.field-0.0 c.in_err-file.ensures.finds in
+    search rules
+
+pub reached-returns-in_err-offer-in-New-clause-come :
+    goal.reached-returns-in_err-offer-in-New-clause-come
+reached-returns-in_err-offer-in-New-clause-come g t c = λ contents root is all.
+    let new = reach_new c.args.paths.now root (g.F.Files.state c.args.files.now).contents contents is c.args.progress.now.files c.as_slice.result.now c.as_slice.ensures
+    all c.args.at c.requires.there c.in_ok-file.field-0 c.in-New.new c.in-New.is c.in_ok-file.ensures.finds in
+    let h = c.in_err-offer-in-New.ensures.come contents root (c.in_ok-file.ensures.kept.contents ∙ is) all new.0 new.1 in
+    search rules
+
+pub reached-returns-in_ok-push-in-New-clause-come : goal.reached-returns-in_ok-push-in-New-clause-come
+reached-returns-in_ok-push-in-New-clause-come g t c = λ contents root is all.
+    let new = reach_new c.args.paths.now root (g.F.Files.state c.args.files.now).contents contents is c.args.progress.now.files c.as_slice.result.now c.as_slice.ensures
+    all c.args.at c.requires.there c.in_ok-file.field-0 c.in-New.new c.in-New.is c.in_ok-file.ensures.finds in
+    c.in_ok-offer-in-New.ensures.come contents root (c.in_ok-file.ensures.kept.contents ∙ is) all new.0 new.1

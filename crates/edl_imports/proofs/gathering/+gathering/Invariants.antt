@@ -1,8 +1,8 @@
-use Rattle.std.proofs.Common.{◌+◌, ◌*◌, ◌≡◌, ◌≤◌, drop, length}
+use Rattle.std.proofs.Common.{ℕ, ◌+◌, ◌*◌, ◌≡◌, ◌≤◌, List, Option, drop, length}
 use Rattle.std.specs.Prelude.{All, IfSome, Some, slice_get}
-use Rattle.sgx_base.specs.Stores.{AreOnlyRead}
+use Rattle.sgx_base.specs.Stores.{Store, AreOnlyRead}
 use Rattle.edl_grammar.specs.declared.SourceFile.{SourceFile}
-use Rattle.edl_imports.specs.Apart.{IsSource}
+use Rattle.edl_imports.specs.ComeTo.{IsReached}
 use Rattle.edl_imports.specs.Gathering as spec
 use Rattle.edl_imports.specs.Gathering.{IsFront}
 use Rattle.edl_imports.specs.Offers.{own}
@@ -22,7 +22,8 @@ invariant-import_all-loop-index g l = record {
   kept : AreOnlyRead (g.F.Files.state l.initial.files) (g.F.Files.state l.files);
   front : IsFront l.initial.progress.files l.progress.files;
   few : length l.progress.files ≤ 64;
-  read : All IsSource l.initial.progress.files → All IsSource l.progress.files;
+  come : (contents : Option Store) (root : List ℕ) → (g.F.Files.state l.initial.files).contents ≡ contents
+      → All (IsReached contents l.paths root) l.initial.progress.files → All (IsReached contents l.paths root) l.progress.files;
   same : (source : SourceFile) → slice_get l.initial.progress.files l.number ≡ Some source
       → IfSome (g.F.Files.state l.initial.files).contents (λ store.
       spec.import_all store l.paths (spec.gather_within store l.paths l.depth) l.number source l.progress l.offer (drop l.index source.tree.imports)

@@ -3,6 +3,7 @@ use Rattle.std.specs.Prelude.{IfSome}
 use Rattle.edl_imports.specs.declared.gathering.Progress.{Progress}
 use Rattle.edl_imports.specs.Causes.{IsStop}
 use Rattle.edl_imports.specs.Gathering.{gather_within, max_files, no_files}
+use Rattle.edl_imports.proofs.Coming.{root_come, none_reached}
 use Rattle.edl_imports.proofs.Turns.{no_root, root_stops, root_gathered}
 use Rattle.edl_imports.proofs.gathering.gather_all.Goals as goal
 
@@ -27,3 +28,17 @@ returns-clause-ok g c =
     c.gather_file.new.progress c.in_ok-offer.offer
     (subst (λ (p : Progress). IfSome (g.F.Files.state c.root_file.new.files).contents (λ store. gather_within store c.args.paths.now max_files p c.in_ok-file.file ≡ Ok (c.gather_file.new.progress, c.in_ok-offer.offer)))
     empty c.in_ok-offer.ensures.ok)
+
+pub returns-in_err-offer-clause-named : goal.returns-in_err-offer-clause-named
+returns-in_err-offer-clause-named g c =
+    let new = root_come (g.F.Files.state c.args.files.now).contents c.args.paths.now c.args.root.now c.in_ok-file.file c.in_ok-file.ensures.name c.in_ok-file.ensures.held in
+    let h = c.in_err-offer.ensures.come (g.F.Files.state c.args.files.now).contents c.args.root.now c.in_ok-file.ensures.kept.contents (none_reached _ _ _ c.new.result c.new.ensures) new.0 new.1 in
+    search rules
+
+pub returns-clause-read : goal.returns-clause-read
+returns-clause-read g c =
+    let new = root_come (g.F.Files.state c.args.files.now).contents c.args.paths.now c.args.root.now c.in_ok-file.file c.in_ok-file.ensures.name c.in_ok-file.ensures.held in
+    c.in_ok-offer.ensures.come (g.F.Files.state c.args.files.now).contents c.args.root.now c.in_ok-file.ensures.kept.contents (none_reached _ _ _ c.new.result c.new.ensures) new.0 new.1
+
+pub returns-in_err-file-clause-named : goal.returns-in_err-file-clause-named
+returns-in_err-file-clause-named g c = let h = c.in_err-file.ensures.named c.args.paths.now in search rules
