@@ -1,0 +1,2 @@
+pub mod StubFiles
+pub mod Examples
