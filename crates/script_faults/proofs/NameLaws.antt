@@ -1,0 +1,16 @@
+-- The names that lines give, one line later.
+use Rattle.std.proofs.Common.{ℕ, ◌≡◌, List, [], ◌∷◌, ◌++◌, Option, sym, ◌∙◌, ap}
+use Rattle.std.specs.Prelude.{filter_map}
+use Rattle.call_script.specs.Spelling.{Word}
+use Rattle.call_script.specs.Line.{Line}
+use Rattle.script_faults.specs.Names.{listed}
+use Rattle.script_faults.proofs.ListLaws.{filter_map-behind}
+
+pub named-behind : (name_of : Line → Option Word) (ls : List Line) (l : Line) (old new : List Word) (o : Option Word)
+    → old ≡ filter_map name_of ls → o ≡ name_of l → new ≡ old ++ listed o
+    → new ≡ filter_map name_of (ls ++ l ∷ [])
+named-behind name_of ls l old new o h e k =
+    k
+    ∙ ap (λ ns. ns ++ listed o) h
+    ∙ ap (λ x. filter_map name_of ls ++ listed x) e
+    ∙ sym (filter_map-behind name_of ls l)
