@@ -2,8 +2,11 @@
 #![tactic(auto)]
 
 mod before;
+mod before_rules;
+mod body_rules;
 mod call_words;
 mod given;
+mod handler_rules;
 mod hex_bytes;
 mod host_rules;
 mod kinds;
