@@ -1,3 +1,5 @@
+pub mod AroundLaws
+pub mod LimitLaws
 pub mod ListLaws
 pub mod GivenLaws
 pub mod HexLaws

@@ -16,8 +16,8 @@ pub left-behind : (most : ℕ) (kind : Line → Bool) (ls : List Line) (l : Line
     → new ≡ old - cond (kind l) 1 0 → new ≡ left most kind (ls ++ l ∷ [])
 left-behind most kind ls l old new h e = omega (arith, count-behind kind ls l)
 
-pub none-left : (most count left : ℕ) → left ≡ most - count → (left == 0) ≡ nat_le most count
-none-left most count left e = grind arith
+pub none_left : (most count left : ℕ) → left ≡ most - count → (left == 0) ≡ nat_le most count
+none_left most count left e = grind arith
 
 pub sum-behind : (f : Line → ℕ) (ls : List Line) (l : Line) (old new : ℕ) → old ≡ min (sum_by f ls) (2 ^ 64 - 1)
     → new ≡ min (old + f l) (2 ^ 64 - 1) → new ≡ min (sum_by f (ls ++ l ∷ [])) (2 ^ 64 - 1)

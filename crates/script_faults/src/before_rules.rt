@@ -8,10 +8,9 @@ ghost use Rattle.call_script.specs.Standing as standing;
 ghost use Rattle.call_script.specs.Standing.{Standing, lines_before};
 ghost use Rattle.script_lines.specs.Lines as lines;
 ghost use Rattle.script_faults.specs.Given.{AreGiven};
-ghost use Rattle.script_faults.specs.Names.{AreNamed};
 
 use crate::given::GivenSettings;
-use crate::names::{GivenNames, is_among};
+
 use script_lines::Line;
 use script_values::WordRule;
 use script_words::number_of;

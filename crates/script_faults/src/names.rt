@@ -49,11 +49,18 @@ pub fn temporary_name<'a>(line: &Line<'a>) -> Option<&'a [u8]>
     }
 }
 
-/// Whether the name is one of these.
-pub fn is_among(names: &[&[u8]], name: &[u8]) -> bool
+fn is_any_of(names: &[&[u8]], name: &[u8]) -> bool
     ensures { result ≡ list_any (λ w. bytes_eq name.now w.now) names.now }
 {
     names.iter().any(|other| same(name, *other))
+}
+
+/// Whether the name is one of these.
+#[tactic(auto, using(crate::proofs::NameLaws::any_word))]
+fn is_among(names: &[&[u8]], name: &[u8]) -> bool
+    ensures { result ≡ list_any (bytes_eq name.now) (spec.words_of names.now) }
+{
+    is_any_of(names, name)
 }
 
 /// Puts the name behind these, if there is one.
@@ -83,6 +90,19 @@ impl<'a> GivenNames<'a> {
             bodies: Items::new(alloc),
             handlers: Items::new(alloc),
             foreign_types: Items::new(alloc),
+        }
+    }
+
+    /// Whether the name that the line gives, and no temporary's, is given.
+    pub fn has(&self, line: &Line) -> bool
+        ensures { (ls : List form.Line) → spec.AreNamed ls self.now
+            → result ≡ spec.is_named_before ls (lines.line_of line.now) }
+    {
+        match line {
+            Line::Body { name } => is_among(self.bodies.as_slice(), *name),
+            Line::Handler { name } => is_among(self.handlers.as_slice(), *name),
+            Line::Foreign { name, .. } => is_among(self.foreign_types.as_slice(), *name),
+            _ => false,
         }
     }
 
