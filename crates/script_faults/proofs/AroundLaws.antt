@@ -1,16 +1,15 @@
 -- The repeats in blocks of which the first is the outermost.
 use Rattle.std.proofs.Common.{arith, ℕ, zero, suc, ◌≡◌, ◌+◌, ◌-◌, ◌*◌, ◌≤◌, ◌<◌, ◌^◌, Bool, true, false, length, drop, take, List, [], ◌∷◌, ◌++◌, refl, sym, ◌∙◌, ap}
-use Rattle.std.specs.Prelude.{min, map, fold, cond, nat_le, count_by, reverse, slice_index_or}
-use Rattle.std.proofs.lemmas.Bool.{leb-true, leb-false}
+use Rattle.std.specs.Prelude.{◌==◌, is_none, min, map, fold, cond, nat_le, count_by, reverse, slice_index_or}
+use Rattle.std.proofs.lemmas.Bool.{leb-true, leb-false, ne_eqb}
 use Rattle.std.proofs.lemmas.List.{reverse-append}
 use Rattle.std.proofs.lemmas.List.Sums.{fold-append, sum_by-append}
-
 use Rattle.std.proofs.Math.Seq.{take-length}
 use Rattle.std.proofs.Math.Nat.{mul-le-mul_right, le-mul_of_pos_right, min-eq_left, min-eq_right}
 use Rattle.call_script.specs.Block as block
 use Rattle.call_script.specs.Standing.{is_repeat, times_of}
 use Rattle.script_lines.specs.declared.blocks.Block.{Block}
-use Rattle.script_lines.specs.Nesting.{opening_of, block_of, blocks_of}
+use Rattle.script_lines.specs.Nesting.{opening_of, block_of, blocks_of, innermost}
 
 blocks_of-front : (b : Block) (bs : List Block) → blocks_of (b ∷ bs) ≡ blocks_of bs ++ block_of b ∷ []
 unfolding blocks_of
@@ -95,3 +94,8 @@ product_step (b ∷ bs) d inside times new h e f g =
     ∙ ap (λ n. min (min (product (blocks_of bs)) (2 ^ 64 - 1) * n) (2 ^ 64 - 1)) f
     ∙ cut_product (product (blocks_of bs)) (times_of (opening_of b.opening)) (2 ^ 64 - 1)
     ∙ ap (λ n. min n (2 ^ 64 - 1)) (sym (product_front b bs))
+
+-- no block is the innermost where there is none
+pub no_innermost : (bs : List block.Block) → is_none (innermost bs) ≡ (length bs == 0)
+no_innermost [] = refl
+no_innermost (b ∷ bs) = sym (ne_eqb (length (b ∷ bs)) 0 (λ e. absurd (omega arith)))

@@ -1,7 +1,7 @@
 pub mod AroundLaws
 pub mod LimitLaws
+pub mod StackLaws
 pub mod ListLaws
 pub mod GivenLaws
-pub mod HexLaws
 pub mod NameLaws
 pub mod RoomLaws

@@ -7,10 +7,10 @@ ghost use Rattle.script_lines.specs.Lines as lines;
 ghost use Rattle.script_faults.specs.Before as spec;
 
 use crate::given::GivenSettings;
-use crate::kinds::is_setting;
 use crate::names::GivenNames;
 use crate::room::Room;
 use script_lines::Line;
+use script_rules::is_setting;
 use sgx_base::read_number;
 use std::alloc::{AllocError, Global};
 

@@ -10,7 +10,6 @@ ghost use Rattle.script_lines.specs.Lines as lines;
 ghost use Rattle.script_faults.specs.Given.{AreGiven};
 
 use crate::given::GivenSettings;
-
 use script_lines::Line;
 use script_values::WordRule;
 use script_words::number_of;

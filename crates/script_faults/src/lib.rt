@@ -4,15 +4,10 @@
 mod around;
 mod before;
 mod before_rules;
-mod body_rules;
-mod call_words;
 mod given;
-mod handler_rules;
-mod hex_bytes;
-mod host_rules;
-mod kinds;
 mod limit_rules;
-mod line_rules;
 mod names;
 mod room;
+mod stacks;
 mod temporaries;
+

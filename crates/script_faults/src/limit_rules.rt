@@ -1,6 +1,6 @@
 //! The rule of limits.
 
-ghost use Rattle.std.specs.Prelude.{◌≡◌, ◌&&◌, ◌||◌, ◌+◌, ◌*◌, ◌^◌, ◌-◌, min, true, nat_lt, map, fold, sum_by, List};
+ghost use Rattle.std.specs.Prelude.{◌≡◌, ◌∷◌, ◌++◌, [], ◌&&◌, ◌||◌, ◌+◌, ◌*◌, ◌^◌, ◌-◌, min, true, nat_lt, map, fold, sum_by, List};
 ghost use Rattle.call_script.specs.Block as block;
 ghost use Rattle.call_script.specs.Faults as spec;
 ghost use Rattle.call_script.specs.Line as form;
@@ -12,10 +12,11 @@ ghost use Rattle.script_faults.specs.Room as room_spec;
 ghost use Rattle.script_faults.specs.Limits as limits;
 
 use crate::around::{has_most_repeats, repetitions};
-use crate::hex_bytes::race_length;
-use crate::kinds::{is_act, is_action, is_race, is_racer, is_repeat, is_temporary, is_thread};
-use crate::room::Room;
+use crate::room::{Room, less};
 use script_lines::{Block, Line};
+use script_rules::{
+    is_act, is_action, is_race, is_racer, is_repeat, is_temporary, is_thread, race_length,
+};
 use script_words::number_of;
 
 /// How many more actions and temporaries may come in a body.
@@ -23,6 +24,28 @@ use script_words::number_of;
 pub struct BodyRoom {
     pub actions: u32,
     pub temporaries: u32,
+}
+
+impl BodyRoom {
+    pub fn new() -> BodyRoom
+        ensures { limits.HasBodyRoom [] result }
+    {
+        BodyRoom {
+            actions: 256,
+            temporaries: 16,
+        }
+    }
+
+    /// What is left behind a line.
+    pub fn behind(self, line: &Line) -> BodyRoom
+        ensures { (ls : List form.Line) → limits.HasBodyRoom ls self
+            → limits.HasBodyRoom (ls ++ lines.line_of line.now ∷ []) result }
+    {
+        BodyRoom {
+            actions: less(self.actions, is_action(line)),
+            temporaries: less(self.temporaries, is_temporary(line)),
+        }
+    }
 }
 
 fn times_of(line: &Line) -> u64

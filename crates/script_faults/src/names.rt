@@ -1,16 +1,16 @@
 //! The names that lines give.
 
-ghost use Rattle.std.specs.Prelude.{◌≡◌, ◌∷◌, ◌++◌, [], List, option_map, IfOk};
+ghost use Rattle.std.specs.Prelude.{◌≡◌, ◌||◌, ◌∷◌, ◌++◌, [], List, option_map, IfOk};
 ghost use Rattle.std.specs.List.{list_any};
 ghost use Rattle.std.specs.Str.{bytes_eq};
 ghost use Rattle.call_script.specs.Line as form;
+ghost use Rattle.call_script.specs.Spelling.{Word};
 ghost use Rattle.call_script.specs.Standing as standing;
 ghost use Rattle.script_lines.specs.Lines as lines;
 ghost use Rattle.script_faults.specs.Names as spec;
 
+use indexmap::IndexSet;
 use script_lines::Line;
-use script_words::same;
-use sqlite_items::Items;
 use std::alloc::{AllocError, Global};
 
 fn body_name<'a>(line: &Line<'a>) -> Option<&'a [u8]>
@@ -49,37 +49,29 @@ pub fn temporary_name<'a>(line: &Line<'a>) -> Option<&'a [u8]>
     }
 }
 
-fn is_any_of(names: &[&[u8]], name: &[u8]) -> bool
-    ensures { result ≡ list_any (λ w. bytes_eq name.now w.now) names.now }
-{
-    names.iter().any(|other| same(name, *other))
-}
-
-/// Whether the name is one of these.
-#[tactic(auto, using(crate::proofs::NameLaws::any_word))]
-fn is_among(names: &[&[u8]], name: &[u8]) -> bool
-    ensures { result ≡ list_any (bytes_eq name.now) (spec.words_of names.now) }
-{
-    is_any_of(names, name)
-}
-
-/// Puts the name behind these, if there is one.
-pub fn put<'a>(names: &mut Items<&'a [u8]>, name: Option<&'a [u8]>) -> Result<(), AllocError>
-    ensures { IfOk result (λ _. spec.words_of names.new
-        ≡ spec.words_of names.old ++ spec.listed (option_map (λ w. w.now) name.entry)) }
+/// Puts the name into the table, if there is one.
+fn put<'a>(names: &mut IndexSet<&'a [u8]>, name: Option<&'a [u8]>) -> Result<(), AllocError>
+    ensures { IfOk result (λ _. (w : Word) → spec.tells names.new w
+        ≡ (spec.tells names.old w || list_any (bytes_eq w) (spec.listed (option_map (λ n. n.now) name.entry)))) }
 {
     if let Some(name) = name {
-        names.push(name)?;
+        names.insert(name)?;
     }
     Ok(())
+}
+
+fn is_among(names: &IndexSet<&[u8]>, name: &[u8]) -> bool
+    ensures { result ≡ spec.tells names.now name.now }
+{
+    names.contains(name)
 }
 
 /// The names that lines give: those of bodies, of handlers and of foreign types.
 #[derive(Drop)]
 pub struct GivenNames<'a> {
-    pub bodies: Items<&'a [u8]>,
-    pub handlers: Items<&'a [u8]>,
-    pub foreign_types: Items<&'a [u8]>,
+    pub bodies: IndexSet<&'a [u8]>,
+    pub handlers: IndexSet<&'a [u8]>,
+    pub foreign_types: IndexSet<&'a [u8]>,
 }
 
 impl<'a> GivenNames<'a> {
@@ -87,9 +79,9 @@ impl<'a> GivenNames<'a> {
         ensures { spec.AreNamed [] result }
     {
         GivenNames {
-            bodies: Items::new(alloc),
-            handlers: Items::new(alloc),
-            foreign_types: Items::new(alloc),
+            bodies: IndexSet::new(alloc),
+            handlers: IndexSet::new(alloc),
+            foreign_types: IndexSet::new(alloc),
         }
     }
 
@@ -99,9 +91,9 @@ impl<'a> GivenNames<'a> {
             → result ≡ spec.is_named_before ls (lines.line_of line.now) }
     {
         match line {
-            Line::Body { name } => is_among(self.bodies.as_slice(), *name),
-            Line::Handler { name } => is_among(self.handlers.as_slice(), *name),
-            Line::Foreign { name, .. } => is_among(self.foreign_types.as_slice(), *name),
+            Line::Body { name } => is_among(&self.bodies, *name),
+            Line::Handler { name } => is_among(&self.handlers, *name),
+            Line::Foreign { name, .. } => is_among(&self.foreign_types, *name),
             _ => false,
         }
     }

@@ -7,9 +7,8 @@ ghost use Rattle.call_script.specs.Standing as standing;
 ghost use Rattle.script_lines.specs.Lines as lines;
 ghost use Rattle.script_faults.specs.Room as spec;
 
-use crate::hex_bytes::race_length;
-use crate::kinds::{is_act, is_racer, is_thread};
 use script_lines::Line;
+use script_rules::{is_act, is_racer, is_thread, race_length};
 
 /// One less where one came, and none where none is left.
 pub fn less(left: u32, came: bool) -> u32

@@ -26,9 +26,7 @@ fn is_temporary_of(temporaries: &[Name], name: &[u8]) -> bool
 fn is_marshalled_of(params: &[Param], name: &[u8]) -> bool
     ensures { result ≡ list_any (λ p. is_marshalled p.class && bytes_eq p.name name.now) params.now }
 {
-    params
-        .iter()
-        .any(|param| param.class.is_marshalled() && same(param.name.bytes(), name))
+    params.iter().any(|param| param.class.is_marshalled() && same(param.name.bytes(), name))
 }
 
 fn is_block_of(params: &[Param], temporaries: &[Name], name: &[u8]) -> bool
@@ -39,7 +37,12 @@ fn is_block_of(params: &[Param], temporaries: &[Name], name: &[u8]) -> bool
 }
 
 /// Given twice. In a body these are the parameters of its function, and the temporaries so far.
-pub fn is_given_twice(names: &GivenNames, params: &[Param], temporaries: &[Name], line: &Line) -> bool
+pub fn is_given_twice(
+    names: &GivenNames,
+    params: &[Param],
+    temporaries: &[Name],
+    line: &Line,
+) -> bool
     ensures { (i : Functions) (s : Standing) → AreNamed (lines_before s) names.now
         → (standing.is_action (lines.line_of line.now) ≡ true → params.now ≡ (standing.names_at i s).params)
         → (standing.is_action (lines.line_of line.now) ≡ true
