@@ -13,7 +13,7 @@ use indexmap::IndexSet;
 use script_lines::Line;
 use std::alloc::{AllocError, Global};
 
-fn body_name<'a>(line: &Line<'a>) -> Option<&'a [u8]>
+pub fn body_name<'a>(line: &Line<'a>) -> Option<&'a [u8]>
     ensures { option_map (λ w. w.now) result ≡ standing.body_name (lines.line_of line.now) }
 {
     match line {
