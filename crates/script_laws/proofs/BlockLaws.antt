@@ -5,7 +5,8 @@ use Rattle.std.specs.List.{AllByRecursion}
 use Rattle.call_script.specs.Spelling.{NumberedLine, numbered_lines, lines}
 use Rattle.call_script.specs.Line.{Line, Body, Handler, Thread, Racer, Repeat, Close}
 use Rattle.call_script.specs.Block.{Block, Scope, Outside, InBody, InHandler, InThread, InRacer, PlacedLine, placed, placed_from, placed_lines, open_after, open_behind, block_at, opens, home, scope_of, scope_in, scope_in_repeat}
-use Rattle.script_laws.proofs.FirstFault.{Rising, numbered-Rising}
+use Rattle.script_laws.specs.FirstFault.{Rising}
+use Rattle.script_laws.proofs.FirstFault.{numbered-Rising}
 use Rattle.script_laws.proofs.Forms.{IsOutside}
 
 -- one of the lines

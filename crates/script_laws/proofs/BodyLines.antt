@@ -11,7 +11,8 @@ use Rattle.call_script.specs.Line.{Line, Set, Temp, Ocall, Do, Close, Phrase, se
 use Rattle.call_script.specs.Block.{Block, InBody, PlacedLine, placed, placed_from, open_after, open_behind, opens, block_at, home, line_in, forms_in, scope_of, scope_in}
 use Rattle.script_laws.proofs.ParserLaws.{Gives, Gives-pure, Gives-bind, Gives-keyword, Gives-<*>, All-++, All-map, first_to_read-is}
 use Rattle.script_laws.proofs.ActionLaws.{or-false}
-use Rattle.script_laws.proofs.FirstFault.{Rising, Below, is_number_of, behind-among, beyond, not_number}
+use Rattle.script_laws.specs.FirstFault.{Rising, Below}
+use Rattle.script_laws.proofs.FirstFault.{is_number_of, behind-among, beyond, not_number}
 
 -- ---- no line of a body opens a block
 

@@ -10,12 +10,10 @@ use Rattle.call_script.specs.Parser.{or_else}
 use Rattle.call_script.specs.Line.{Line, Close}
 use Rattle.call_script.specs.Block.{Block, PlacedLine, placed, placed_from, placed_lines, open_after, open_behind, left_open, block_at, opens}
 use Rattle.call_script.specs.Standing.{Standing, standings_from, standings}
+use Rattle.script_laws.specs.FirstFault.{first_of, Rising, Below, outermost, is_outermost, left_outermost, fault_with}
 use Rattle.call_script.specs.Faults.{Fault, rows_of, fault_at, fault_by, fault_of, is_left_open, is_unpaired, line_fault}
 
 -- ---- from line to line
-
-abbrev pub first_of : {A B : Type 0} → (A → Option B) → List A → Option B
-first_of f xs = slice_get (filter_map f xs) 0
 
 -- the first of a list is that of its head, or else of the rest
 pub first_of-cons : {A B : Type 0} (f : A → Option B) (x : A) (xs : List A)
@@ -44,11 +42,6 @@ same_first f g (x ∷ xs) h =
 
 -- ---- numbers
 
--- the lines' numbers rise, from at least this on
-unfoldable pub Rising : ℕ → List NumberedLine → Type 0
-Rising n [] = Unit {0}
-Rising n (l ∷ ls) = (n ≤ l.number) × Rising (l.number + 1) ls
-
 pub Rising-weaken : (m n : ℕ) (ls : List NumberedLine) → m ≤ n → Rising n ls → Rising m ls
 unfolding Rising
 Rising-weaken m n [] e h = tt
@@ -64,11 +57,6 @@ numbered-Rising n (l ∷ ls) = go (means_nothing (words l)) refl (numbered-Risin
     go true e h = rw e (Rising-weaken n (n + 1) _ (omega arith) h)
     go false e h = rw e (omega arith, h)
 
--- the blocks' numbers fall from the innermost to the outermost, from below this on
-unfoldable pub Below : ℕ → List Block → Type 0
-Below m [] = Unit {0}
-Below m (b ∷ bs) = (b.number < m) × Below b.number bs
-
 pub Below-weaken : (m n : ℕ) (bs : List Block) → m ≤ n → Below m bs → Below n bs
 unfolding Below
 Below-weaken m n [] e h = tt
@@ -76,12 +64,6 @@ Below-weaken m n (b ∷ bs) e h = (omega arith, h.1)
 
 abbrev pub is_number_of : ℕ → List Block → Bool
 is_number_of n bs = list_any (λ b. b.number == n) bs
-
--- the number of the outermost block
-abbrev pub outermost : List Block → Option ℕ
-outermost [] = None
-outermost (b ∷ []) = Some b.number
-outermost (b ∷ c ∷ bs) = outermost (c ∷ bs)
 
 pub not_number : (b n : ℕ) → (b ≡ n → ⊥) → (b == n) ≡ false
 not_number b n h = go (b == n) refl
@@ -267,19 +249,11 @@ left_faulty i racing s o e =
 
 -- ---- the outermost block alone
 
-abbrev pub is_outermost : Option ℕ → ℕ → Bool
-is_outermost None n = false
-is_outermost (Some o) n = o == n
-
 module _ (i : Interface) (racing : Bool) where
-  -- the fault of a line, where of the blocks left open the outermost alone is known
-  abbrev pub fault_with : Option ℕ → Standing → Option Fault
-  fault_with o s = fault_by i racing (is_outermost o s.here.number) s
-
   agree : (m : ℕ) (before : List PlacedLine) (around : List Block) (ls : List NumberedLine) → Below m around
       → Rising m ls
       → ((p : ℕ) → outermost (end_of around ls) ≡ Some p → m ≤ p)
-      → AgreeUntil (fault_at i racing) (fault_with (outermost (end_of around ls)))
+      → AgreeUntil (fault_at i racing) (fault_with i racing (outermost (end_of around ls)))
       (standings_from before (placed_from around ls))
   unfolding AgreeUntil Rising end_of
   agree m before around [] b r c = tt
@@ -348,10 +322,6 @@ module _ (i : Interface) (racing : Bool) where
           omega arith
 
 -- ---- a whole script
-
--- the number of the outermost block that is left open
-abbrev pub left_outermost : List ℕ → Option ℕ
-left_outermost bytes = outermost (left_open (placed_lines bytes))
 
 -- a reader that knows beforehand which outermost block is left open finds the fault by going through the lines in order
 pub line_fault-is : (i : Interface) (racing : Bool) (bytes : List ℕ)

@@ -26,9 +26,9 @@ pub enum WordRule<'a> {
     /// A name stands for nothing in this body.
     UnknownName(&'a BodyNames<'a>),
     /// The number of a cell is not below this.
-    NoCell(u32),
+    NoCell(u64),
     /// More actions are passed over than these.
-    SkipPast(u32),
+    SkipPast(u64),
 }
 
 impl WordRule<'_> {
@@ -69,7 +69,7 @@ impl WordRule<'_> {
     {
         match *self {
             WordRule::WideNumber => is_wide(word),
-            WordRule::NoCell(cells) => u64::from(cells) <= number_of(word),
+            WordRule::NoCell(cells) => cells <= number_of(word),
             _ => false,
         }
     }
@@ -79,7 +79,7 @@ impl WordRule<'_> {
     {
         match *self {
             WordRule::WideNumber => is_wide(word),
-            WordRule::SkipPast(left) => u64::from(left) < number_of(word),
+            WordRule::SkipPast(left) => left < number_of(word),
             _ => false,
         }
     }

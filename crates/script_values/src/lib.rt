@@ -23,4 +23,6 @@ pub use calls::{
 };
 pub use functions::{named, ordinal_of};
 pub use settings::{default_settings, for_program, with_setting};
-pub use spelling::{bytes_of, is_bad_hex, is_in_frame, is_place_out, is_wide, place_named};
+pub use spelling::{
+    bytes_of, is_bad_hex, is_dotted_name, is_in_frame, is_place_out, is_wide, place_named,
+};

@@ -215,14 +215,15 @@ pub struct NumberedLines<'a> {
 }
 
 impl<'a> Model for NumberedLines<'a> {
-    ghost use Rattle.std.specs.Prelude.{List, length, ◌+◌, ◌<◌, ◌^◌};
+    ghost use Rattle.std.specs.Prelude.{List, length, ◌+◌, ◌≤◌};
+    ghost use Rattle.sgx_base.specs.Stores.{max_file_size};
     ghost use Rattle.call_script.specs.Spelling as spec;
 
     ghost Value = { List spec.NumberedLine };
 
     ghost view = { λ l. spec.numbered_from l.number l.lines };
 
-    ghost invariant = { λ l. l.number + length l.lines < 2 ^ 32 };
+    ghost invariant = { λ l. l.number + length l.lines ≤ max_file_size + 1 };
 }
 
 impl<'a> NumberedLines<'a> {
@@ -233,6 +234,20 @@ impl<'a> NumberedLines<'a> {
         NumberedLines {
             lines: Lines::new(bytes),
             number: 1,
+        }
+    }
+
+    /// The same lines once more.
+    #[tactic(auto, using(crate::proofs::LineLaws::few_numbered))]
+    pub fn again(&self) -> NumberedLines<'a>
+        ensures same { result ≡ self.now }
+        ensures few { length result ≤ max_file_size + 1 }
+    {
+        NumberedLines {
+            lines: Lines {
+                bytes: self.lines.bytes,
+            },
+            number: self.number,
         }
     }
 

@@ -1,0 +1,14 @@
+pub mod AroundLaws
+pub mod LimitLaws
+pub mod ScopeLaws
+pub mod PlaceLaws
+pub mod BodyLaws
+pub mod ParamLaws
+pub mod StepLaws
+pub mod WalkLaws
+pub mod StackLaws
+pub mod CodeLaws
+pub mod ListLaws
+pub mod GivenLaws
+pub mod NameLaws
+pub mod RoomLaws

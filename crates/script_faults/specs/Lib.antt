@@ -1,0 +1,9 @@
+pub mod Given
+pub mod Names
+pub mod Room
+pub mod Before
+pub mod Limits
+pub mod Codes
+pub mod Bodies
+pub mod Walk
+pub mod Fault
