@@ -1,6 +1,6 @@
 -- The repeats in blocks of which the first is the outermost.
 use Rattle.std.proofs.Common.{arith, ℕ, zero, suc, ◌≡◌, ◌+◌, ◌-◌, ◌*◌, ◌≤◌, ◌<◌, ◌^◌, Bool, true, false, length, drop, take, List, [], ◌∷◌, ◌++◌, refl, sym, ◌∙◌, ap}
-use Rattle.std.specs.Prelude.{◌==◌, is_none, min, map, fold, cond, nat_le, count_by, reverse, slice_index_or}
+use Rattle.std.specs.Prelude.{◌==◌, is_none, min, map, fold, cond, nat_le, count_by, slice_index_or}
 use Rattle.std.proofs.lemmas.Bool.{leb-true, leb-false, ne_eqb}
 use Rattle.std.proofs.lemmas.List.{reverse-append}
 use Rattle.std.proofs.lemmas.List.Sums.{fold-append, sum_by-append}

@@ -1,5 +1,5 @@
 -- The lines of a body, by looking ahead and from line to line.
-use Rattle.std.proofs.Common.{arith, ℕ, ◌≡◌, ◌+◌, ◌<◌, ◌≤◌, Bool, true, false, List, [], ◌∷◌, ◌++◌, Option, Some, None, refl, sym, ◌∙◌, ap, subst, eq-eqb}
+use Rattle.std.proofs.Common.{arith, ℕ, ◌≡◌, ◌+◌, ◌<◌, Bool, true, false, List, [], ◌∷◌, ◌++◌, Option, Some, None, refl, sym, ◌∙◌, ap, subst, eq-eqb}
 use Rattle.std.specs.Prelude.{◌==◌, if◌then◌else◌, drop, filter, filter_map, count_by, cond}
 use Rattle.std.specs.List.{AllByRecursion, cons_option}
 use Rattle.std.proofs.lemmas.List.Elements.{filter-append, filter_map-append}
@@ -9,7 +9,7 @@ use Rattle.call_script.specs.Spelling.{Word, NumberedLine}
 use Rattle.call_script.specs.Line.{Line, Body, Handler, Thread, Racer, Repeat, Close}
 use Rattle.call_script.specs.Block.{Block, PlacedLine, Scope, Outside, InBody, InHandler, InThread, InRacer, scope_of, scope_in, placed, placed_from, open_after, open_behind, block_at, opens, home, line_in}
 use Rattle.call_script.specs.Standing.{lines_of, is_action, temporary_name, body_name, body_function, named, names_in, names_at}
-use Rattle.script_laws.specs.FirstFault.{Rising, Below}
+use Rattle.script_laws.specs.FirstFault.{Rising}
 use Rattle.script_laws.proofs.FirstFault.{not_number, Below-weaken}
 use Rattle.script_laws.proofs.BodyLines.{opens-nothing, closes, up_to_close, at_home-body}
 use Rattle.script_faults.specs.declared.body.Body.{Body as Open}

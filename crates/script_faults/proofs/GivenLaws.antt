@@ -1,16 +1,10 @@
 -- The settings that lines give, one line later.
-use Rattle.std.proofs.Common.{ℕ, ◌≡◌, Bool, true, false, List, [], ◌∷◌, ◌++◌, Option, Some, None, refl, sym, ◌∙◌, ap, append-nil}
-use Rattle.std.specs.Prelude.{◌||◌, if◌then◌else◌, filter_map, slice_get, is_some, unwrap_or}
+use Rattle.std.proofs.Common.{ℕ, ◌≡◌, List, [], ◌∷◌, ◌++◌, Option, Some, None, refl, sym, ◌∙◌, ap}
+use Rattle.std.specs.Prelude.{filter_map, slice_get, is_some, unwrap_or}
 use Rattle.std.specs.List.{list_any}
-use Rattle.std.specs.Str.{bytes_eq}
-use Rattle.sgx_base.specs.Numbers.{spelled_number}
-use Rattle.call_script.specs.Spelling.{Word}
 use Rattle.call_script.specs.Settings as row
-use Rattle.call_script.specs.Line as line
 use Rattle.call_script.specs.Line.{Line}
-use Rattle.call_script.specs.Standing.{is_setting, set_to, setting_in}
-use Rattle.script_lines.specs.Lines.{setting_of}
-use Rattle.script_lines.specs.declared.line.Setting.{Setting}
+use Rattle.call_script.specs.Standing.{set_to, setting_in}
 use Rattle.script_faults.specs.declared.given.GivenSetting.{GivenSetting}
 use Rattle.script_faults.specs.declared.given.GivenSettings.{GivenSettings}
 use Rattle.script_faults.proofs.ListLaws.{filter_map-more, filter_map-same}

@@ -1,5 +1,5 @@
 -- A product that is cut off, against a limit below.
-use Rattle.std.proofs.Common.{arith, ℕ, ◌≡◌, ◌*◌, ◌^◌, ◌-◌, sym, ◌∙◌, ap}
+use Rattle.std.proofs.Common.{arith, ℕ, ◌≡◌, ◌*◌, ◌^◌, ◌-◌, ◌∙◌, ap}
 use Rattle.std.specs.Prelude.{min, nat_lt}
 use Rattle.script_faults.proofs.AroundLaws.{cut_product}
 

@@ -1,5 +1,5 @@
 -- The names that lines give, one line later.
-use Rattle.std.proofs.Common.{ℕ, ◌≡◌, Bool, true, false, refl, List, [], ◌∷◌, ◌++◌, Option, sym, ◌∙◌, ap, subst}
+use Rattle.std.proofs.Common.{ℕ, ◌≡◌, Bool, true, false, refl, List, [], ◌∷◌, ◌++◌, Option, sym, ◌∙◌, ap}
 use Rattle.std.specs.Prelude.{◌||◌, if◌then◌else◌, filter_map}
 use Rattle.std.specs.List.{list_any}
 use Rattle.std.specs.Str.{bytes_eq}

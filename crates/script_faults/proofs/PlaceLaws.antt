@@ -1,12 +1,12 @@
 -- The lines that are gone through, the blocks that are open and the lines that are left, one line later.
-use Rattle.std.proofs.Common.{arith, ℕ, ◌≡◌, ◌+◌, ◌<◌, ◌≤◌, Bool, true, false, List, [], ◌∷◌, ◌++◌, Option, Some, None, refl, sym, ◌∙◌, ap, subst}
+use Rattle.std.proofs.Common.{arith, ℕ, ◌≡◌, ◌+◌, ◌<◌, ◌≤◌, Bool, true, false, List, [], ◌∷◌, ◌++◌, Option, Some, None, refl}
 use Rattle.std.specs.Prelude.{if◌then◌else◌, drop}
 use Rattle.std.specs.List.{AllByRecursion}
 use Rattle.call_script.specs.Spelling.{Word, NumberedLine, numbered_lines, lines}
-use Rattle.call_script.specs.Line.{Line, Body, Handler, Thread, Racer, Repeat, Close}
-use Rattle.call_script.specs.Block.{Block, PlacedLine, Scope, Outside, InBody, InHandler, InThread, InRacer, scope_of, scope_in, placed, open_after, open_behind, block_at, opens, home, line_in}
+use Rattle.call_script.specs.Line.{Line, Close}
+use Rattle.call_script.specs.Block.{Block, PlacedLine, Scope, Outside, InBody, InHandler, InThread, InRacer, scope_of, placed, open_after, open_behind, block_at, opens, home, line_in}
 use Rattle.script_laws.specs.FirstFault.{Rising, Below}
-use Rattle.script_laws.proofs.FirstFault.{Rising-weaken, numbered-Rising, Below-weaken, behind-Below}
+use Rattle.script_laws.proofs.FirstFault.{numbered-Rising, Below-weaken, behind-Below}
 use Rattle.script_laws.proofs.ParserLaws.{All-++}
 use Rattle.script_laws.proofs.BodyLines.{opens-nothing}
 use Rattle.script_faults.specs.Walk.{is_body, NoneInBody, ArePlaced}

@@ -1,5 +1,5 @@
 -- Stacks of so many threads and workers, against the size of host memory.
-use Rattle.std.proofs.Common.{arith, ℕ, ◌≡◌, ◌+◌, ◌-◌, ◌*◌, ◌^◌, ◌≤◌, ◌<◌, sym, ◌∙◌, ap}
+use Rattle.std.proofs.Common.{arith, ℕ, ◌≡◌, ◌+◌, ◌-◌, ◌*◌, ◌^◌, ◌≤◌, ◌<◌, ◌∙◌, ap}
 use Rattle.std.specs.Prelude.{min, nat_lt}
 
 -- a number that is cut off far above

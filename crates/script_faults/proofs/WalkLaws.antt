@@ -1,5 +1,5 @@
 -- What is known behind a line without fault.
-use Rattle.std.proofs.Common.{arith, ℕ, ◌≡◌, ◌+◌, ◌<◌, ◌≤◌, Bool, true, false, List, [], ◌∷◌, ◌++◌, Option, Some, None, refl, sym, ◌∙◌, ap, subst, append_assoc, append-nil}
+use Rattle.std.proofs.Common.{arith, ℕ, ◌≡◌, ◌+◌, ◌≤◌, Bool, true, false, List, [], ◌∷◌, ◌++◌, Option, Some, None, refl, sym, ◌∙◌, ap, subst, append_assoc, append-nil}
 use Rattle.std.specs.Prelude.{◌&&◌, if◌then◌else◌, nat_le, cond, count_by, find, option_map}
 use Rattle.std.specs.List.{AllByRecursion, cons_option}
 use Rattle.std.proofs.lemmas.Bool.{leb-false}
@@ -10,7 +10,7 @@ use Rattle.call_script.specs.Line.{Line, Body, Thread}
 use Rattle.call_script.specs.Block.{PlacedLine, placed, placed_from, placed_lines, open_after, open_behind}
 use Rattle.call_script.specs.Block as block
 use Rattle.call_script.specs.Standing.{Standing, lines_of, is_action, is_thread, body_name, standings, standings_from}
-use Rattle.call_script.specs.Faults.{Row, Fault, rows, rows_of, fault_by, fault_of, is_one_too_many, max_threads, line_fault, script_fault, stack_fault, stacks_do_not_fit}
+use Rattle.call_script.specs.Faults.{Row, rows, rows_of, fault_of, is_one_too_many, max_threads, line_fault, script_fault, stack_fault, stacks_do_not_fit}
 use Rattle.script_laws.specs.FirstFault.{first_of, fault_with}
 use Rattle.script_laws.specs.FirstFault as laws
 use Rattle.script_laws.proofs.FirstFault.{first_of-cons, line_fault-is, no_broken}

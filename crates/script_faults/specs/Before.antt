@@ -1,5 +1,5 @@
 -- What the lines before a line give together.
-use Rattle.std.specs.Prelude.{ℕ, ◌≡◌, not, List, filter_map, None, unwrap_or}
+use Rattle.std.specs.Prelude.{◌≡◌, not, List, filter_map, None, unwrap_or}
 use Rattle.std.specs.List.{list_any, last_or}
 use Rattle.call_script.specs.Line.{Line}
 use Rattle.call_script.specs.Standing.{access_of, is_setting}

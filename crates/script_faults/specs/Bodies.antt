@@ -1,5 +1,5 @@
 -- The lines of a body, and what is known of it from line to line.
-use Rattle.std.specs.Prelude.{ℕ, ◌≡◌, Bool, true, false, List, [], ◌∷◌, ◌++◌, length, filter_map, count_by, Option, Some, None}
+use Rattle.std.specs.Prelude.{◌≡◌, Bool, true, false, List, [], ◌∷◌, ◌++◌, length, filter_map, count_by, Option, Some, None}
 use Rattle.edl_interface.specs.declared.Interface.{Interface}
 use Rattle.call_script.specs.Spelling.{Word, NumberedLine}
 use Rattle.call_script.specs.Line.{Line, Close}

@@ -1,5 +1,5 @@
 -- The settings that lines give.
-use Rattle.std.specs.Prelude.{ℕ, ◌≡◌, if◌then◌else◌, List, [], ◌∷◌, filter_map, Option, Some, None, option_and_then}
+use Rattle.std.specs.Prelude.{ℕ, ◌≡◌, if◌then◌else◌, List, filter_map, Option, Some, None, option_and_then}
 use Rattle.std.specs.Str.{bytes_eq}
 use Rattle.call_script.specs.Settings as row
 use Rattle.call_script.specs.Line.{Line}

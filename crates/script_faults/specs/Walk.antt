@@ -1,5 +1,5 @@
 -- How far the lines of a script are gone through, and what is known there.
-use Rattle.std.specs.Prelude.{ℕ, ◌≡◌, ◌≤◌, ◌<◌, ◌==◌, Bool, true, false, List, [], ◌∷◌, ◌++◌, filter, count_by, slice_get, Option, Some, None, option_map, unwrap_or}
+use Rattle.std.specs.Prelude.{ℕ, ◌≡◌, ◌≤◌, ◌<◌, ◌==◌, Bool, true, false, List, [], ◌∷◌, ◌++◌, filter, count_by, slice_get, Option, None, option_map, unwrap_or}
 use Rattle.std.specs.List.{AllByRecursion}
 use Rattle.edl_interface.specs.declared.Interface.{Interface}
 use Rattle.call_script.specs.Spelling.{Word, NumberedLine}

@@ -32,7 +32,7 @@ impl<'a> SoFar<'a> {
     pub fn new(alloc: Global) -> SoFar<'a>
         ensures so_far { (i : Functions) (bytes : List ℕ)
             → spec.IsSoFar i [] (spelling.numbered_lines bytes) result }
-        ensures blocks { nesting.open_blocks result.blocks ≡ [] }
+        ensures none_open { nesting.open_blocks result.blocks ≡ [] }
     {
         SoFar {
             blocks: Blocks::new(alloc),

@@ -1,6 +1,5 @@
 -- The bytes that hexadecimal digits spell, by their count.
-use Rattle.std.proofs.Common.{ℕ, ◌≡◌, ◌/◌, true, false, length, Option, Some, None, refl}
-use Rattle.std.specs.Prelude.{is_none, unwrap_or, codes}
+use Rattle.std.proofs.Common.{◌≡◌, ◌/◌, true, false, length, Option, Some, None, refl}
 use Rattle.call_script.specs.Spelling.{Word, is_bad_hex, spelled_bytes}
 use Rattle.call_script.specs.Arguments.{bytes_of}
 use Rattle.script_values.proofs.HexLaws.{byte_count}

@@ -1,8 +1,8 @@
 -- The part of a name behind its last slash, and a name without its end.
-use Rattle.std.proofs.Common.{◌≡◌, ◌≢◌, ◌∙◌, ap, sym, refl, ℕ, ◌+◌, ◌-◌, ◌<◌, ◌==◌, true, false, not, List, ◌++◌, length, take, drop, get_or, Option, Some, None, Bool, arith, cond}
+use Rattle.std.proofs.Common.{◌≡◌, ◌≢◌, ◌∙◌, ap, sym, refl, ℕ, ◌+◌, ◌-◌, ◌<◌, ◌==◌, true, false, not, List, length, take, drop, get_or, Option, Some, None, Bool, arith, cond}
 use Rattle.std.specs.Prelude.{MatchOption, unwrap_or, option_map, nat_eq}
 use Rattle.std.specs.Borrow.{Bor}
-use Rattle.std.specs.List.{after_last, ends_with, suffix_len}
+use Rattle.std.specs.List.{ends_with, suffix_len}
 use Rattle.std.specs.Str.Pattern.{FindsTextSuffix, StripsSuffix}
 use Rattle.std.proofs.lemmas.Bool.{ne_eqb}
 use Rattle.std.proofs.lemmas.List.Sums.{suffix_len_is}

@@ -1,4 +1,4 @@
-use Rattle.std.proofs.Common.{◌≡◌, ◌∙◌, Some, None, lit<}
+use Rattle.std.proofs.Common.{◌∙◌, Some, None, lit<}
 use Rattle.std.proofs.lemmas.Str.Pattern.{rfind_char}
 use Rattle.stub_files.proofs.NameLaws.{behind_slash, no_slash}
 use Rattle.stub_files.proofs.base_name.Goals as goal

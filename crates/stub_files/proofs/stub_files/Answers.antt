@@ -1,4 +1,4 @@
-use Rattle.std.proofs.Common.{◌≡◌, ◌∙◌, ap, sym, List, [], ◌∷◌, ◌++◌}
+use Rattle.std.proofs.Common.{◌∙◌, ap, sym, [], ◌∷◌, ◌++◌}
 use Rattle.stub_files.specs.declared.StubFile.{StubFile}
 use Rattle.stub_files.specs.StubFiles as spec
 use Rattle.stub_files.proofs.LoopLaws.{taken_more, left_more}

@@ -1,4 +1,4 @@
-use Rattle.std.proofs.Common.{refl, sym, subst}
+use Rattle.std.proofs.Common.{sym, subst}
 use Rattle.script_lines.specs.Nesting.{numbered}
 use Rattle.script_faults.specs.Walk.{IsSoFar}
 use Rattle.script_faults.proofs.WalkLaws.{IsReached, reached-first, reached-next}
@@ -9,7 +9,7 @@ loop-line-init c =
     subst (IsReached c.args.interface.now c.args.racing c.in_ok-left.left c.args.bytes.now c.new-so_far.result)
     (sym c.new-lines.ensures)
     (reached-first c.args.interface.now c.args.racing c.in_ok-left.left c.args.bytes.now c.new-so_far.result
-    c.in_ok-left.ensures c.new-so_far.ensures.blocks
+    c.in_ok-left.ensures c.new-so_far.ensures.none_open
     (c.new-so_far.ensures.so_far c.args.interface.now c.args.bytes.now))
 
 pub loop-line-preserved : goal.loop-line-preserved

@@ -1,4 +1,4 @@
-use Rattle.std.proofs.Common.{arith, ℕ, ◌+◌, ◌-◌, ◌^◌, ◌<◌, length, ◌∙◌, ap}
+use Rattle.std.proofs.Common.{arith, ◌+◌, ◌-◌, ◌^◌, ◌<◌, length, ◌∙◌, ap}
 use Rattle.std.specs.Prelude.{min, cond}
 use Rattle.script_lines.specs.Lines.{line_of}
 use Rattle.script_faults.proofs.StepLaws.{all-the-same, given-behind, left-behind}

@@ -1,5 +1,5 @@
 use Rattle.std.proofs.Common.{sym, ◌∙◌, ap}
-use Rattle.std.specs.Prelude.{filter_map, slice_get, unwrap_or}
+use Rattle.std.specs.Prelude.{filter_map, slice_get}
 use Rattle.script_lines.specs.Lines.{setting_of}
 use Rattle.script_faults.specs.Given.{number_given}
 use Rattle.script_faults.proofs.GivenLaws.{number_is}
