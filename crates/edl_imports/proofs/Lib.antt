@@ -3,6 +3,7 @@ pub mod Steps
 pub mod Reading
 pub mod Importing
 pub mod Tables
+pub mod ByName
 pub mod Turns
 pub mod Apart
 pub mod Coming

@@ -1,5 +1,6 @@
 pub mod Search
 pub mod Offers
+pub mod ByName
 pub mod Gathering
 pub mod Conflicts
 pub mod Tables

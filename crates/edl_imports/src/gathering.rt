@@ -19,6 +19,7 @@ ghost use Rattle.edl_imports.specs.Offers as offers;
 ghost use Rattle.edl_imports.specs.Gathering as spec;
 ghost use Rattle.edl_imports.specs.Gathering.{IsImport, IsThere, HasRoom, IsFront};
 
+use crate::by_name::ByName;
 use crate::conflicts::{Place, first_conflict};
 use crate::faults::{ImportCause, Stop, fault_of};
 use crate::offers::{Offer, own};
@@ -201,6 +202,7 @@ impl Importing<'_> {
     }
 
     /// Puts the offered functions of these names behind, unless one is missing.
+    #[tactic(auto, using(crate::proofs::ByName::missing_law, crate::proofs::ByName::names_law))]
     fn take_names(
         &self,
         alloc: Global,
@@ -214,11 +216,12 @@ impl Importing<'_> {
         ensures err { IfErr result (IsStopOf (spec.with_taken self.now.number self.now.source.now files.now offered.now
             offer.old (Some names.now))) }
     {
-        if let Some(token) = offered.first_missing(files, names) {
+        let offered = ByName::new(alloc, files, offered)?;
+        if let Some(token) = offered.first_missing(names) {
             let place = self.place(token, 9);
             return Err(self.fault(alloc, ImportCause::NoSuchName(place)));
         }
-        offer.join_names(alloc, files, offered, names)?;
+        offer.join_names(alloc, &offered, names)?;
         Ok(())
     }
 

@@ -11,6 +11,7 @@ ghost use Rattle.edl_imports.specs.Gathering.{gathering};
 ghost use Rattle.edl_imports.specs.Laws.{IsAlone, OwnImportIsCycle, CycleIsRefused, EachIsReached};
 ghost use Rattle.edl_imports.specs.Laws.{EachIsTakenOnce, FirstPlaceStays, TypesStandApart};
 
+mod by_name;
 mod conflicts;
 mod faults;
 mod gathering;

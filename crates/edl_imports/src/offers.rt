@@ -1,10 +1,11 @@
 //! The functions that files offer.
 
 ghost use Rattle.std.specs.Prelude.{◌≡◌, ◌<◌, ◌^◌, ℕ, Bool, OnOk, IfOk, fold, option_map, length};
-ghost use Rattle.std.specs.List.{list_any};
 ghost use Rattle.edl_imports.specs.Offers as spec;
+ghost use Rattle.edl_imports.specs.ByName as by_name;
 ghost use Rattle.edl_imports.specs.Tables.{TellsPicks, TellsOffer};
 
+use crate::by_name::ByName;
 use edl_grammar::{EdlFile, FuncDecl, NameAt, Pick, SourceFile};
 use indexmap::IndexSet;
 use sqlite_items::Items;
@@ -78,14 +79,26 @@ fn add(
     Ok(())
 }
 
+/// Puts the functions to the end, each where it is not among them.
+fn add_all(
+    picks: &mut Items<Pick>,
+    table: &mut IndexSet<(u32, u32)>,
+    more: &[Pick],
+) -> Result<(), AllocError>
+    ensures { OnOk result (TellsPicks table.old picks.old
+        → (picks.new ≡ spec.joined picks.old more.now) × TellsPicks table.new picks.new) }
+{
+    for pick in more {
+        add(picks, table, *pick)?;
+    }
+    Ok(())
+}
+
 fn join(alloc: Global, picks: &mut Items<Pick>, more: &[Pick]) -> Result<(), AllocError>
     ensures { OnOk result (picks.new ≡ spec.joined picks.old more.now) }
 {
     let mut table = table_of(alloc, picks.as_slice())?;
-    for pick in more {
-        add(picks, &mut table, *pick)?;
-    }
-    Ok(())
+    add_all(picks, &mut table, more)
 }
 
 /// The declaration that a pick of a side stands for.
@@ -94,46 +107,6 @@ pub(crate) fn picked(files: &[SourceFile], is_trusted: bool, pick: Pick) -> Opti
 {
     let file = files.get(pick.file as usize)?;
     side(&file.tree, is_trusted).get(pick.index as usize)
-}
-
-/// Whether the function has this name.
-fn is_called(files: &[SourceFile], is_trusted: bool, name: &[u8], pick: Pick) -> bool
-    ensures { result ≡ spec.is_called files.now is_trusted name.now pick }
-{
-    match picked(files, is_trusted, pick) {
-        Some(function) => function.name.bytes() == name,
-        None => false,
-    }
-}
-
-/// Whether a function among these has this name.
-fn has_called(files: &[SourceFile], is_trusted: bool, name: &[u8], picks: &[Pick]) -> bool
-    ensures { result ≡ list_any (spec.is_called files.now is_trusted name.now) picks.now }
-{
-    picks
-        .iter()
-        .any(|pick| is_called(files, is_trusted, name, *pick))
-}
-
-/// Puts those of this name among the offered to the end.
-fn join_called(
-    files: &[SourceFile],
-    is_trusted: bool,
-    name: &[u8],
-    picks: &mut Items<Pick>,
-    table: &mut IndexSet<(u32, u32)>,
-    offered: &[Pick],
-) -> Result<(), AllocError>
-    ensures { OnOk result (TellsPicks table.old picks.old
-        → (picks.new ≡ spec.joined_where (spec.is_called files.now is_trusted name.now) picks.old offered.now)
-        × TellsPicks table.new picks.new) }
-{
-    for pick in offered {
-        if is_called(files, is_trusted, name, *pick) {
-            add(picks, table, *pick)?;
-        }
-    }
-    Ok(())
 }
 
 /// The functions of an offer by table.
@@ -163,29 +136,22 @@ impl Offer {
     fn join_name(
         &mut self,
         tables: &mut Joined,
-        files: &[SourceFile],
-        offered: &Offer,
+        offered: &ByName<'_>,
         name: &NameAt,
     ) -> Result<(), AllocError>
         ensures { OnOk result (TellsOffer tables.old self.old
-            → (self.new ≡ spec.with_name files.now offered.now self.old name.now) × TellsOffer tables.new self.new) }
+            → (self.new ≡ by_name.with_under offered.now self.old name.now) × TellsOffer tables.new self.new) }
     {
         let name = name.name.bytes();
-        join_called(
-            files,
-            true,
-            name,
+        add_all(
             &mut self.trusted,
             &mut tables.trusted,
-            offered.trusted.as_slice(),
+            offered.trusted(name),
         )?;
-        join_called(
-            files,
-            false,
-            name,
+        add_all(
             &mut self.untrusted,
             &mut tables.untrusted,
-            offered.untrusted.as_slice(),
+            offered.untrusted(name),
         )
     }
 
@@ -193,34 +159,15 @@ impl Offer {
     pub(crate) fn join_names(
         &mut self,
         alloc: Global,
-        files: &[SourceFile],
-        offered: &Offer,
+        offered: &ByName<'_>,
         names: &[NameAt],
     ) -> Result<(), AllocError>
-        ensures { OnOk result (self.new ≡ spec.with_names files.now offered.now self.old names.now) }
+        ensures { OnOk result (self.new ≡ by_name.with_all_under offered.now self.old names.now) }
     {
         let mut tables = self.tables(alloc)?;
         for name in names {
-            self.join_name(&mut tables, files, offered, name)?;
+            self.join_name(&mut tables, offered, name)?;
         }
         Ok(())
-    }
-
-    /// Whether a function of this name is offered.
-    fn has(&self, files: &[SourceFile], name: &[u8]) -> bool
-        ensures { result ≡ spec.is_offered files.now self.now name.now }
-    {
-        has_called(files, true, name, self.trusted.as_slice())
-            || has_called(files, false, name, self.untrusted.as_slice())
-    }
-
-    /// The token of the first name that is not offered.
-    pub(crate) fn first_missing(&self, files: &[SourceFile], names: &[NameAt]) -> Option<u32>
-        ensures { result ≡ option_map (λ x. x.token) (spec.first_missing files.now self.now names.now) }
-    {
-        names
-            .iter()
-            .find(|name| !self.has(files, name.name.bytes()))
-            .map(|name| name.token)
     }
 }
