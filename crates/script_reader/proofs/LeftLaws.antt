@@ -17,6 +17,11 @@ unfolding left formed_lines placed_lines
 all_left p bytes e f =
     ap (λ around. lines_of (placed_from around p.lines)) e ∙ ap (λ ls. lines_of (placed_from [] ls)) f
 
+pub all_placed : (p : PlacedLines) (bytes : List ℕ) → open_blocks p.blocks ≡ [] → p.lines ≡ numbered_lines bytes
+    → placed_left p ≡ placed_lines bytes
+unfolding placed_lines
+all_placed p bytes e f = ap (λ around. placed_from around p.lines) e ∙ ap (λ ls. placed_from [] ls) f
+
 pub none_left : (p : PlacedLines) → p.lines ≡ [] → left p ≡ []
 unfolding left
 none_left p e = ap (λ ls. lines_of (placed_from (open_blocks p.blocks) ls)) e

@@ -5,3 +5,4 @@ pub mod FoldLaws
 pub mod WordLaws
 pub mod SettingLaws
 pub mod RaceLaws
+pub mod ActLaws

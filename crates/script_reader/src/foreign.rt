@@ -71,11 +71,13 @@ fn with_declared(
 ) -> Result<Items<ForeignType>, ScriptFault>
     ensures { Reads (spec.declared types line (spec.line_outside words.old)) result }
 {
-    let Some(Line::Foreign {
-        name,
-        size,
-        alignment,
-    }) = line_outside(words)
+    let Some(
+        Line::Foreign {
+            name,
+            size,
+            alignment,
+        },
+    ) = line_outside(words)
     else {
         return Err(ScriptFault::Rule { line, code: 1 });
     };

@@ -6,6 +6,7 @@ ghost use Rattle.sgx_base.specs.Stores.{max_file_size};
 ghost use Rattle.call_script.specs.Reading.{Reads};
 ghost use Rattle.script_reader.specs.Foreign.{foreign_types};
 
+mod acts;
 mod foreign;
 mod lines;
 mod races;

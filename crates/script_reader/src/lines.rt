@@ -2,6 +2,7 @@
 
 ghost use Rattle.std.specs.Prelude.{◌≡◌, ◌≤◌, ◌∷◌, [], length, IfOk, MatchOption};
 ghost use Rattle.sgx_base.specs.Stores.{max_file_size};
+ghost use Rattle.call_script.specs.Block.{placed_lines};
 ghost use Rattle.script_lines.specs.Lines as lines;
 ghost use Rattle.script_reader.specs.Left.{placed_left, left, formed_lines, block_lines};
 
@@ -9,10 +10,11 @@ use script_lines::{Line, PlacedLine, PlacedLines};
 use std::alloc::{AllocError, Global};
 
 /// All lines of a script.
-#[tactic(auto, using(crate::proofs::LeftLaws::all_left))]
+#[tactic(auto, using(crate::proofs::LeftLaws::all_left, crate::proofs::LeftLaws::all_placed))]
 pub fn all_lines<'a>(alloc: Global, bytes: &'a [u8]) -> PlacedLines<'a>
     requires { length bytes.now ≤ max_file_size }
-    ensures { left result ≡ formed_lines bytes.now }
+    ensures formed { left result ≡ formed_lines bytes.now }
+    ensures placed { placed_left result ≡ placed_lines bytes.now }
 {
     PlacedLines::new(alloc, bytes)
 }
@@ -25,14 +27,22 @@ pub fn next_formed<'a>(placed: &mut PlacedLines<'a>) -> Result<Option<Line<'a>>,
 {
     loop {
         match placed.next() {
-            Ok(Some(PlacedLine {
-                number: _,
-                line: Some(line),
-            })) => return Ok(Some(line)),
-            Ok(Some(PlacedLine {
-                number: _,
-                line: None,
-            })) => {}
+            Ok(
+                Some(
+                    PlacedLine {
+                        number: _,
+                        line: Some(line),
+                    },
+                ),
+            ) => return Ok(Some(line)),
+            Ok(
+                Some(
+                    PlacedLine {
+                        number: _,
+                        line: None,
+                    },
+                ),
+            ) => {}
             Ok(None) => return Ok(None),
             Err(error) => return Err(error),
         }
@@ -48,7 +58,10 @@ pub struct HomeLine<'a> {
 
 /// Takes the next line of the block that the line of this number opens, or of none where it is 0.
 #[tactic(auto, using(crate::proofs::LeftLaws::none_in, crate::proofs::LeftLaws::in_block, crate::proofs::LeftLaws::elsewhere, crate::proofs::LeftLaws::formless_in, crate::proofs::LeftLaws::fewer))]
-pub fn next_in<'a>(placed: &mut PlacedLines<'a>, home: u32) -> Result<Option<HomeLine<'a>>, AllocError>
+pub fn next_in<'a>(
+    placed: &mut PlacedLines<'a>,
+    home: u32,
+) -> Result<Option<HomeLine<'a>>, AllocError>
     ensures { IfOk result (λ next. MatchOption next (block_lines home (placed_left placed.old) ≡ [])
         (λ l. block_lines home (placed_left placed.old)
         ≡ (l.number, lines.line_of l.line) ∷ block_lines home (placed_left placed.new))) }
@@ -56,18 +69,26 @@ pub fn next_in<'a>(placed: &mut PlacedLines<'a>, home: u32) -> Result<Option<Hom
     loop {
         let here = placed.blocks.innermost().unwrap_or(0);
         match placed.next() {
-            Ok(Some(PlacedLine {
-                number,
-                line: Some(line),
-            })) => {
+            Ok(
+                Some(
+                    PlacedLine {
+                        number,
+                        line: Some(line),
+                    },
+                ),
+            ) => {
                 if here == home {
                     return Ok(Some(HomeLine { number, line }));
                 }
             }
-            Ok(Some(PlacedLine {
-                number: _,
-                line: None,
-            })) => {}
+            Ok(
+                Some(
+                    PlacedLine {
+                        number: _,
+                        line: None,
+                    },
+                ),
+            ) => {}
             Ok(None) => return Ok(None),
             Err(error) => return Err(error),
         }

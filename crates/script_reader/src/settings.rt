@@ -58,12 +58,7 @@ fn number_of_setting(alloc: Global, setting: Setting, bytes: &[u8]) -> Result<u6
 }
 
 /// How many workers there are: none in a program without threads.
-fn workers(
-    alloc: Global,
-    racing: bool,
-    setting: Setting,
-    bytes: &[u8],
-) -> Result<u64, AllocError>
+fn workers(alloc: Global, racing: bool, setting: Setting, bytes: &[u8]) -> Result<u64, AllocError>
     requires { length bytes.now ≤ max_file_size }
     ensures { (i : Interface) → IfOk result (λ n. n ≡ meaning.if_racing i racing (placed_lines bytes.now)
         (standing.setting_in (formed_lines bytes.now) (lines.setting_of setting))) }
