@@ -4,8 +4,7 @@ use Rattle.std.proofs.Common.{subst}
 use Rattle.std.proofs.lemmas.List.{append-nil}
 use Rattle.std.proofs.lemmas.List.Elements.{filter_map-append}
 use Rattle.std.proofs.lemmas.Slice.Eq.{bytes_eq-Decides}
-use Rattle.std.specs.Prelude.{◌||◌, if◌then◌else◌, filter, filter_map, find, slice_get, option_map, option_and_then, codes}
-use Rattle.std.specs.List.{list_any}
+use Rattle.std.specs.Prelude.{◌||◌, if◌then◌else◌, filter_map, find, slice_get, option_map, option_and_then, codes}
 use Rattle.std.specs.Str.{bytes_eq}
 use Rattle.edl_layout.specs.declared.ForeignType.{ForeignType}
 use Rattle.edl_layout.specs.declared.ForeignTypes.{ForeignTypes}
@@ -15,11 +14,11 @@ use Rattle.call_script.specs.Spelling.{Word, NumberedLine, numbered_lines, is_na
 use Rattle.call_script.specs.Parser.{Parser, ◌<*>◌, pure, name, number, ended, or_else}
 use Rattle.call_script.specs.Line as line
 use Rattle.call_script.specs.Line.{Line, Foreign}
-use Rattle.call_script.specs.Block.{PlacedLine, placed, line_in, Outside}
+use Rattle.call_script.specs.Block.{PlacedLine, line_in, Outside}
 use Rattle.call_script.specs.Standing.{Standing, standings_from, lines_of, is_named_in, foreign_name}
-use Rattle.call_script.specs.Faults.{Fault, Row, row, fault_at, fault_by, fault_of, rows, has_number_out_of_range, is_left_open, line_fault}
+use Rattle.call_script.specs.Faults.{Fault, Row, row, fault_at, fault_of, rows, has_number_out_of_range, is_left_open}
 use Rattle.call_script.specs.Reading.{Reads, unless_fault}
-use Rattle.script_reader.specs.Foreign.{type_named, begins_with, placed_foreign, foreign_lines, foreign_type, types_in, only, no_interface, foreign_types, line_outside, is_declared, declared, types_after, on_to, types_behind}
+use Rattle.script_reader.specs.Foreign.{type_named, placed_foreign, foreign_type, types_in, only, no_interface, foreign_types, line_outside, is_declared, declared, types_after, on_to, types_behind}
 
 -- the first of a list is that of its head, or else of the rest
 abbrev first_of : {A B : Type 0} → (A → Option B) → List A → Option B

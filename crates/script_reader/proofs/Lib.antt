@@ -5,4 +5,5 @@ pub mod FoldLaws
 pub mod WordLaws
 pub mod SettingLaws
 pub mod RaceLaws
-pub mod ActLaws
+pub mod FitLaws
+pub mod ValueLaws

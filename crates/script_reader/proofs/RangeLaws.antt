@@ -1,6 +1,6 @@
 -- Numbers in their range.
-use Rattle.std.proofs.Common.{arith, ℕ, ◌≡◌, ◌≤◌, Bool, true, false, List, [], ◌∷◌, Option, Some, None, refl, leb-true, eqb-true}
-use Rattle.std.specs.Prelude.{◌&&◌, ◌||◌, ◌==◌, not, nat_le, nat_eq, unwrap_or}
+use Rattle.std.proofs.Common.{arith, ℕ, ◌≡◌, ◌≤◌, Bool, true, false, [], ◌∷◌, Option, Some, None, refl, leb-true, eqb-true}
+use Rattle.std.specs.Prelude.{◌&&◌, ◌||◌, not, nat_le, nat_eq, unwrap_or}
 use Rattle.std.specs.List.{list_any}
 use Rattle.sgx_base.specs.Numbers.{is_decimal, is_hexadecimal, spelled_number}
 use Rattle.call_script.specs.Spelling.{Word, is_number, is_from_to, is_out_of}
@@ -28,10 +28,10 @@ at-most least most true (Some n) h e = go (nat_le least n) (nat_le n most) refl 
     go true false f e = absurd cc
     go false false f e = absurd cc
 
-in-range : (least most : ℕ) (w : Word) → is_out_of least most w ≡ false → number_of w ≤ most
+pub in-range : (least most : ℕ) (w : Word) → is_out_of least most w ≡ false → number_of w ≤ most
 in-range least most w e = at-most least most (is_number w) (spelled_number w) (none-spelled w) e
 
-neither : (a b : Bool) → (a || b) ≡ false → (a ≡ false) × (b ≡ false)
+pub neither : (a b : Bool) → (a || b) ≡ false → (a ≡ false) × (b ≡ false)
 neither false false e = (refl, refl)
 neither false true e = absurd cc
 neither true b e = absurd cc

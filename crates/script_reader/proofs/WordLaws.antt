@@ -1,6 +1,6 @@
 -- Bytes that are written one after another.
 use Rattle.std.proofs.Common.{arith, ℕ, ◌*◌, ◌++◌, Bool, ◌≡◌, ◌+◌, ◌≤◌, List, [], ◌∷◌, length, refl, ap, ◌∙◌}
-use Rattle.std.specs.Prelude.{slice_set, fold, if◌then◌else◌}
+use Rattle.std.specs.Prelude.{fold, if◌then◌else◌}
 use Rattle.std.proofs.lemmas.List.{set_past}
 use Rattle.call_script.specs.Meaning.{zeros, written, host_behind, cells_behind}
 use Rattle.call_script.specs.declared.Settings.{Settings}

@@ -1,7 +1,9 @@
 -- What a script begins with, by its lines.
-use Rattle.std.specs.Prelude.{ℕ, ◌≡◌, ◌<◌, ◌-◌, ◌^◌, ◌*◌, Bool, List, [], ◌∷◌, ◌++◌, fold, if◌then◌else◌}
+use Rattle.std.specs.Prelude.{ℕ, ◌≡◌, ◌<◌, ◌-◌, ◌^◌, ◌*◌, Bool, List, [], ◌∷◌, ◌++◌, fold, take_while, if◌then◌else◌}
 use Rattle.call_script.specs.declared.Settings.{Settings}
+use Rattle.call_script.specs.Settings as row
 use Rattle.call_script.specs.Line.{Line}
+use Rattle.call_script.specs.Standing.{is_setting, setting_in}
 use Rattle.word_port.specs.declared.Race.{Race}
 use Rattle.edl_interface.specs.declared.Interface.{Interface}
 use Rattle.call_script.specs.Block.{placed_lines}
@@ -17,6 +19,14 @@ words_of racing settings lines =
 -- the settings of a script, for whatever interface
 abbrev pub AreSettings : Bool → List ℕ → Settings → Type 0
 AreSettings racing bytes s = (i : Interface) → s ≡ meaning.settings i racing (placed_lines bytes)
+
+-- the settings at the front of lines
+abbrev pub front : List Line → List Line
+front lines = take_while is_setting lines
+
+-- the settings at the front of a script are all that it has
+abbrev pub AreInFront : List Line → Type 0
+AreInFront lines = (s : row.Setting) → setting_in (front lines) s ≡ setting_in lines s
 
 -- a race whose numbers fit, and another at the index behind it
 abbrev pub IsSmallRace : Race → Type 0

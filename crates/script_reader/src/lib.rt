@@ -6,16 +6,17 @@ ghost use Rattle.sgx_base.specs.Stores.{max_file_size};
 ghost use Rattle.call_script.specs.Reading.{Reads};
 ghost use Rattle.script_reader.specs.Foreign.{foreign_types};
 
-mod acts;
 mod foreign;
 mod lines;
 mod races;
 mod settings;
+mod value;
 mod words;
 
 use call_script::ScriptFault;
 use edl_layout::ForeignTypes;
 use std::alloc::Global;
+pub use value::value_of;
 
 /// The foreign types that a script declares, for the layouts of its interface.
 ///

@@ -10,7 +10,7 @@ ghost use Rattle.call_script.specs.Sound.{AreSoundSettings};
 ghost use Rattle.call_script.specs.Standing as standing;
 ghost use Rattle.script_lines.specs.Lines as lines;
 ghost use Rattle.script_reader.specs.Left.{formed_lines};
-ghost use Rattle.script_reader.specs.Initial.{AreSettings};
+ghost use Rattle.script_reader.specs.Initial.{AreInFront, AreSettings};
 
 use crate::lines::{all_lines, next_formed};
 use call_script::Settings;
@@ -37,16 +37,31 @@ fn set_to(setting: Setting, line: &Line) -> Option<u64>
     }
 }
 
-/// The number of the setting: the first that a line gives, or what it is without one.
-#[tactic(auto, using(crate::proofs::SettingLaws::passed, crate::proofs::SettingLaws::found, crate::proofs::SettingLaws::not_given))]
+/// Whether the line gives a setting.
+fn is_setting(line: &Line) -> bool
+    ensures { result ≡ standing.is_setting (lines.line_of line.now) }
+{
+    match line {
+        Line::Set { .. } => true,
+        _ => false,
+    }
+}
+
+/// The number of the setting: the first that a line gives, or what it is without one. The lines behind the settings in
+/// front are not read.
+#[tactic(auto, using(crate::proofs::SettingLaws::passed, crate::proofs::SettingLaws::behind_front, crate::proofs::SettingLaws::not_given))]
 fn number_of_setting(alloc: Global, setting: Setting, bytes: &[u8]) -> Result<u64, AllocError>
-    requires { length bytes.now ≤ max_file_size }
+    requires short { length bytes.now ≤ max_file_size }
+    requires first { AreInFront (formed_lines bytes.now) }
     ensures { IfOk result (λ n. n ≡ standing.setting_in (formed_lines bytes.now) (lines.setting_of setting)) }
 {
     let mut lines = all_lines(alloc, bytes);
     loop {
         match next_formed(&mut lines) {
             Ok(Some(line)) => {
+                if !is_setting(&line) {
+                    return Ok(u64::from(setting.default()));
+                }
                 if let Some(number) = set_to(setting, &line) {
                     return Ok(number);
                 }
@@ -59,7 +74,8 @@ fn number_of_setting(alloc: Global, setting: Setting, bytes: &[u8]) -> Result<u6
 
 /// How many workers there are: none in a program without threads.
 fn workers(alloc: Global, racing: bool, setting: Setting, bytes: &[u8]) -> Result<u64, AllocError>
-    requires { length bytes.now ≤ max_file_size }
+    requires short { length bytes.now ≤ max_file_size }
+    requires first { AreInFront (formed_lines bytes.now) }
     ensures { (i : Interface) → IfOk result (λ n. n ≡ meaning.if_racing i racing (placed_lines bytes.now)
         (standing.setting_in (formed_lines bytes.now) (lines.setting_of setting))) }
 {
@@ -73,6 +89,7 @@ fn workers(alloc: Global, racing: bool, setting: Setting, bytes: &[u8]) -> Resul
 /// The settings of a script.
 pub fn settings(alloc: Global, racing: bool, bytes: &[u8]) -> Result<Settings, AllocError>
     requires short { length bytes.now ≤ max_file_size }
+    requires first { AreInFront (formed_lines bytes.now) }
     requires sound { (i : Interface) → AreSoundSettings racing (meaning.settings i racing (placed_lines bytes.now)) }
     ensures { IfOk result (λ s. AreSettings racing bytes.now s) }
 {
