@@ -1,0 +1,4 @@
+pub mod Foreign
+pub mod Left
+pub mod Initial
+pub mod Value
