@@ -1,2 +1,3 @@
+pub mod FillLaws
 mod Joining
 mod ProductLaws

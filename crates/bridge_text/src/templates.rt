@@ -1,6 +1,7 @@
 //! Templates: texts with places, each a dollar sign and a letter, and what stands there.
 
-ghost use Rattle.std.specs.Prelude.{◌≡◌, ◌<◌, ◌++◌, length, IfOk, OnOk, map};
+ghost use Rattle.std.specs.Prelude.{◌≡◌, ◌<◌, ◌≤◌, ◌==◌, ◌++◌, length, IfOk, OnOk, map};
+ghost use Rattle.std.specs.List.{position, position_or_len};
 ghost use Rattle.bridge_text.specs.Template.{seen, text_at as text_at_of, fill, line, filled_lines};
 
 use std::alloc::AllocError;
@@ -35,8 +36,51 @@ fn text_at<'a>(places: &[Place<'a>], letter: u8) -> &'a [u8]
     }
 }
 
-/// Appends the first byte of a template, or what stands at the place that it begins with, and gives what is left.
+fn first_dollar(template: &[u8]) -> Option<usize>
+    ensures { result ≡ position (λ byte. byte == 36) template.now }
+{
+    template.iter().position(|byte| *byte == b'$')
+}
+
+/// How many bytes stand before the first dollar sign.
+#[tactic(auto, using(crate::proofs::FillLaws::some_plain, crate::proofs::FillLaws::all_plain))]
+fn plain_len(template: &[u8]) -> usize
+    ensures exact { result ≡ position_or_len (λ byte. byte == 36) template.now }
+    ensures within { result ≤ length template.now }
+{
+    match first_dollar(template) {
+        Some(at) => at,
+        None => template.len(),
+    }
+}
+
+/// Appends what stands at the place that a template begins with, and gives what is left.
 #[tactic(auto, unfolding(crate::specs::Template::fill))]
+fn put_place<'a>(
+    out: &mut Vec<u8>,
+    places: &[Place<'_>],
+    template: &'a [u8],
+) -> Result<&'a [u8], AllocError>
+    requires { position_or_len (λ byte. byte == 36) template.now ≡ 0 }
+    ensures text { IfOk result (λ rest. out.new.items ++ fill (map seen places.now) rest.now
+        ≡ out.old.items ++ fill (map seen places.now) template.now) }
+    ensures less { IfOk result (λ rest. 0 < length template.now → length rest.now < length template.now) }
+{
+    match template {
+        [] => Ok(template),
+        [last] => {
+            out.push(*last)?;
+            Ok(&template[1..])
+        }
+        [_, letter, rest @ ..] => {
+            out.extend_from_slice(text_at(places, *letter))?;
+            Ok(rest)
+        }
+    }
+}
+
+/// Appends a template up to its first place, or what stands there where it begins with it, and gives what is left.
+#[tactic(auto, using(crate::proofs::FillLaws::passed))]
 fn put_first<'a>(
     out: &mut Vec<u8>,
     places: &[Place<'_>],
@@ -47,22 +91,12 @@ fn put_first<'a>(
         ≡ out.old.items ++ fill (map seen places.now) template.now) }
     ensures less { IfOk result (λ rest. length rest.now < length template.now) }
 {
-    match template {
-        [] => Ok(template),
-        [last] => {
-            out.push(*last)?;
-            Ok(&template[1..])
-        }
-        [first, letter, rest @ ..] => {
-            if *first == b'$' {
-                out.extend_from_slice(text_at(places, *letter))?;
-                Ok(rest)
-            } else {
-                out.push(*first)?;
-                Ok(&template[1..])
-            }
-        }
+    let (plain, rest) = template.split_at(plain_len(template));
+    if plain.is_empty() {
+        return put_place(out, places, template);
     }
+    out.extend_from_slice(plain)?;
+    Ok(rest)
 }
 
 /// Appends the template with each place filled.
