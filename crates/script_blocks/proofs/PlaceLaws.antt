@@ -7,7 +7,8 @@ use Rattle.std.specs.List.{AllByRecursion, cons_option}
 use Rattle.call_script.specs.Spelling.{NumberedLine, numbered_lines, lines}
 use Rattle.call_script.specs.Line.{Line}
 use Rattle.call_script.specs.Block.{Block, PlacedLine, placed, placed_from, placed_lines, open_after, home}
-use Rattle.script_laws.proofs.FirstFault.{Rising, Rising-weaken, numbered-Rising, Below, Below-weaken, behind-Below, is_number_of, beyond, not_number}
+use Rattle.script_laws.specs.FirstFault.{Rising, Below}
+use Rattle.script_laws.proofs.FirstFault.{Rising-weaken, numbered-Rising, Below-weaken, behind-Below, is_number_of, beyond, not_number}
 use Rattle.script_laws.proofs.BodyLines.{other-after}
 use Rattle.script_blocks.specs.Blocks.{HomeLine, kept_by, kept, is_of_block, block_lines, in_block, inside, AreInPlace}
 
