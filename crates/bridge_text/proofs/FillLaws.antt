@@ -35,7 +35,7 @@ all_plain template = go (nat_lt (position_or_len (λ byte. byte == 36) template)
 -- the bytes before the first place stand as they are
 pub plain_first : (places : List Place) (template : List ℕ)
     → take (position_or_len (λ byte. byte == 36) template) template
-      ++ fill places (drop (position_or_len (λ byte. byte == 36) template) template) ≡ fill places template
+    ++ fill places (drop (position_or_len (λ byte. byte == 36) template) template) ≡ fill places template
 plain_first places [] = refl
 plain_first places (b ∷ rest) = go (b == 36) refl (plain_first places rest)
   where
