@@ -1,4 +1,1 @@
 pub mod Foreign
-pub mod Left
-pub mod Initial
-pub mod Value

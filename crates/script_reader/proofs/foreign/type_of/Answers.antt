@@ -1,5 +1,5 @@
 use Rattle.std.proofs.Common.{arith}
-use Rattle.script_reader.proofs.RangeLaws.{size_fits, alignment_fits}
+use Rattle.script_value.proofs.RangeLaws.{size_fits, alignment_fits}
 use Rattle.script_reader.proofs.foreign.type_of.Goals as goal
 
 pub overflow_cast-result : goal.overflow_cast-result
