@@ -105,7 +105,7 @@ module _ (files : List SourceFile) (tables : ByName) (offered : Offer) (h : Tell
       ap (λ (b : Bool). cond (not b) (Some x) (first_unknown tables names)) (has_law x.name)
       ∙ ap (λ (r : Option NameAt). cond (not (is_offered files offered x.name)) (Some x) r) (missing_law names)
 
-  with_law : (own : Offer) (x : NameAt) → with_under tables own x ≡ with_name files offered own x
+  with_law : (own : Offer) (x : NameAt) → with_under tables own x.name ≡ with_name files offered own x
   with_law own x =
       ap (λ (ps : List Pick). record { trusted = joined own.trusted ps; untrusted = joined own.untrusted (under tables.untrusted x.name) }) (h.0.here x.name)
       ∙ ap (λ (ps : List Pick). record { trusted = joined own.trusted (filter (is_called files true x.name) offered.trusted); untrusted = joined own.untrusted ps }) (h.1.here x.name)

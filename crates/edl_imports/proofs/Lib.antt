@@ -4,6 +4,7 @@ pub mod Reading
 pub mod Importing
 pub mod Tables
 pub mod ByName
+pub mod Joining
 pub mod Turns
 pub mod Apart
 pub mod Coming

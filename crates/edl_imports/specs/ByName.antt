@@ -38,12 +38,12 @@ module _ (tables : ByName) where
   first_unknown = find (λ x. not (has x.name))
 
   -- an offer, and behind it the functions of this name
-  abbrev pub with_under : Offer → NameAt → Offer
-  with_under own x = record {
-    trusted = joined own.trusted (under tables.trusted x.name);
-    untrusted = joined own.untrusted (under tables.untrusted x.name);
+  abbrev pub with_under : Offer → List ℕ → Offer
+  with_under own name = record {
+    trusted = joined own.trusted (under tables.trusted name);
+    untrusted = joined own.untrusted (under tables.untrusted name);
   }
 
   -- the same for each name in order
   abbrev pub with_all_under : Offer → List NameAt → Offer
-  with_all_under = fold with_under
+  with_all_under = fold (λ own x. with_under own x.name)

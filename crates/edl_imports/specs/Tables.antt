@@ -1,5 +1,5 @@
 -- What tables by key tell of lists of functions and of names.
-use Rattle.std.specs.Prelude.{ℕ, ◌≡◌, Bool, false, ◌&&◌, ◌==◌, nat_lt, min, if◌then◌else◌, List, Option, Some, None, fold}
+use Rattle.std.specs.Prelude.{ℕ, ◌≡◌, Bool, true, false, ◌&&◌, ◌==◌, nat_lt, min, if◌then◌else◌, List, [], ◌∷◌, Option, Some, None, fold}
 use Rattle.std.specs.HashMap.{HashMap}
 use Rattle.std.specs.HashSet.{HashSet}
 use Rattle.std.specs.List.{list_any}
@@ -9,6 +9,9 @@ use Rattle.edl_grammar.specs.declared.Pick.{Pick}
 use Rattle.edl_imports.specs.declared.conflicts.Known.{Known}
 use Rattle.edl_imports.specs.declared.offers.Offer.{Offer}
 use Rattle.edl_imports.specs.declared.offers.Joined.{Joined}
+use Rattle.edl_imports.specs.declared.offers.Growing.{Growing}
+use Rattle.edl_imports.specs.declared.by_name.ByName.{ByName}
+use Rattle.edl_imports.specs.ByName.{under}
 use Rattle.edl_imports.specs.Offers.{has_pick}
 use denote.Ref.{Bor}
 
@@ -26,6 +29,21 @@ module _ {S : Type 0} where
 -- the tables have the functions of the two sides
 abbrev pub TellsOffer : Joined → Offer → Type 0
 TellsOffer tables offer = TellsPicks tables.trusted offer.trusted × TellsPicks tables.untrusted offer.untrusted
+
+-- the tables have the functions of the offer that grows
+abbrev pub IsTold : Growing → Type 0
+IsTold growing = TellsOffer growing.tables growing.offer
+
+-- the first list has each function of the second
+abbrev pub HasAll : List Pick → List Pick → Type 0
+HasAll ps [] = Unit {0}
+HasAll ps (q ∷ qs) = (has_pick ps q ≡ true) × HasAll ps qs
+
+module _ {S : Type 0} where
+  -- the offer has the functions of these names already
+  pub record AreJoined (seen : HashSet (Bor (List ℕ)) S) (tables : ByName) (offer : Offer) : Type 0 where
+    pub here : (name : List ℕ) → list_any (λ k. bytes_eq name k.now) seen.keys ≡ true
+        → HasAll offer.trusted (under tables.trusted name) × HasAll offer.untrusted (under tables.untrusted name)
 
 -- ---- names
 

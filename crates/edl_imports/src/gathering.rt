@@ -18,11 +18,12 @@ ghost use Rattle.edl_imports.specs.Search.{IsSmall};
 ghost use Rattle.edl_imports.specs.Offers as offers;
 ghost use Rattle.edl_imports.specs.Gathering as spec;
 ghost use Rattle.edl_imports.specs.Gathering.{IsImport, IsThere, HasRoom, IsFront};
+ghost use Rattle.edl_imports.specs.Tables.{IsTold};
 
 use crate::by_name::ByName;
 use crate::conflicts::{Place, first_conflict};
 use crate::faults::{ImportCause, Stop, fault_of};
-use crate::offers::{Offer, own};
+use crate::offers::{Growing, Offer, own};
 use crate::search::{Found, NewFile, found_file, read_new};
 use edl_grammar::{EdlFile, Gathered, Import, NameAt, ParseFault, SourceFile};
 use edl_lexer::{LexFault, Token, lex};
@@ -209,19 +210,21 @@ impl Importing<'_> {
         files: &[SourceFile],
         offered: &Offer,
         names: &[NameAt],
-        offer: &mut Offer,
+        growing: &mut Growing,
     ) -> Result<(), Stop>
-        ensures ok { OnOk result (spec.with_taken self.now.number self.now.source.now files.now offered.now offer.old
-            (Some names.now) ≡ Ok offer.new) }
+        requires { IsTold growing.old }
+        ensures ok { OnOk result (spec.with_taken self.now.number self.now.source.now files.now offered.now
+            growing.old.offer (Some names.now) ≡ Ok growing.new.offer) }
+        ensures told { OnOk result (IsTold growing.new) }
         ensures err { IfErr result (IsStopOf (spec.with_taken self.now.number self.now.source.now files.now offered.now
-            offer.old (Some names.now))) }
+            growing.old.offer (Some names.now))) }
     {
         let offered = ByName::new(alloc, files, offered)?;
         if let Some(token) = offered.first_missing(names) {
             let place = self.place(token, 9);
             return Err(self.fault(alloc, ImportCause::NoSuchName(place)));
         }
-        offer.join_names(alloc, &offered, names)?;
+        growing.join_names(alloc, &offered, names)?;
         Ok(())
     }
 
@@ -231,17 +234,19 @@ impl Importing<'_> {
         alloc: Global,
         files: &[SourceFile],
         offered: &Offer,
-        offer: &mut Offer,
+        growing: &mut Growing,
     ) -> Result<(), Stop>
-        ensures ok { OnOk result (spec.with_taken self.now.number self.now.source.now files.now offered.now offer.old
-            self.now.import.now.names ≡ Ok offer.new) }
+        requires { IsTold growing.old }
+        ensures ok { OnOk result (spec.with_taken self.now.number self.now.source.now files.now offered.now
+            growing.old.offer self.now.import.now.names ≡ Ok growing.new.offer) }
+        ensures told { OnOk result (IsTold growing.new) }
         ensures err { IfErr result (IsStopOf (spec.with_taken self.now.number self.now.source.now files.now offered.now
-            offer.old self.now.import.now.names)) }
+            growing.old.offer self.now.import.now.names)) }
     {
         match &self.import.names {
-            Some(names) => self.take_names(alloc, files, offered, names.as_slice(), offer),
+            Some(names) => self.take_names(alloc, files, offered, names.as_slice(), growing),
             None => {
-                offer.join(alloc, offered)?;
+                growing.join(offered)?;
                 Ok(())
             }
         }
@@ -303,32 +308,36 @@ fn take_from(
     progress: &Progress,
     at: ImportAt,
     file: usize,
-    offer: &mut Offer,
+    growing: &mut Growing,
 ) -> Result<(), Stop>
-    requires { IsThere progress.now.files at }
+    requires there { IsThere progress.now.files at }
+    requires told { IsTold growing.old }
     ensures ok { (source : ASourceFile) (i : AnImport) → IsImport progress.now.files at source i
-        → OnOk result (spec.taken_from at.file source progress.now i offer.old file ≡ Ok offer.new) }
+        → OnOk result (spec.taken_from at.file source progress.now i growing.old.offer file ≡ Ok growing.new.offer) }
+    ensures told { OnOk result (IsTold growing.new) }
     ensures err { (source : ASourceFile) (i : AnImport) → IsImport progress.now.files at source i
-        → IfErr result (IsStopOf (spec.taken_from at.file source progress.now i offer.old file)) }
+        → IfErr result (IsStopOf (spec.taken_from at.file source progress.now i growing.old.offer file)) }
 {
     let files = progress.files.as_slice();
     let importing = import_at(files, at);
     let finished = offer_of(progress.finished.as_slice(), file);
     let offered = importing.offered_by(alloc, finished)?;
-    importing.take(alloc, files, offered, offer)
+    importing.take(alloc, files, offered, growing)
 }
 
 /// How many imports the file of this number has, and its own functions.
-fn begin(alloc: Global, files: &[SourceFile], number: u32) -> Result<(usize, Offer), AllocError>
+fn begin(alloc: Global, files: &[SourceFile], number: u32) -> Result<(usize, Growing), AllocError>
     requires { number < length files.now }
-    ensures { IfOk result (λ begun. (source : ASourceFile) → slice_get files.now number ≡ Some source
-        → (begun.0 ≡ length source.tree.imports) × (begun.1 ≡ offers.own number source.tree)) }
+    ensures begun { IfOk result (λ begun. (source : ASourceFile) → slice_get files.now number ≡ Some source
+        → (begun.0 ≡ length source.tree.imports) × (begun.1.offer ≡ offers.own number source.tree)) }
+    ensures told { IfOk result (λ begun. IsTold begun.1) }
 {
     let Some(source) = files.get(number as usize) else {
         unreachable!()
     };
     let offer = own(alloc, number, &source.tree)?;
-    Ok((source.tree.imports.len(), offer))
+    let growing = Growing::new(alloc, offer)?;
+    Ok((source.tree.imports.len(), growing))
 }
 
 fn wanted_at<F: Files>(
@@ -423,15 +432,16 @@ fn import_all<F: Files>(
         → Comes contents paths.now root progress.new.files result }
     ensures kept { AreOnlyRead (F.state files.old) (F.state files.new) }
 {
-    let (count, mut offer) = begin(alloc, progress.files.as_slice(), number)?;
+    let (count, mut growing) = begin(alloc, progress.files.as_slice(), number)?;
     for index in 0..count {
         let at = ImportAt {
             file: number,
             index,
         };
         let file = reached(alloc, files, paths, progress, at, depth)?;
-        take_from(alloc, progress, at, file, &mut offer)?;
+        take_from(alloc, progress, at, file, &mut growing)?;
     }
+    let Growing { offer, tables: _ } = growing;
     Ok(offer)
 }
 

@@ -3,7 +3,7 @@
 ghost use Rattle.std.specs.Prelude.{◌≡◌, ◌<◌, ◌^◌, ℕ, Bool, OnOk, IfOk, fold, option_map, length};
 ghost use Rattle.edl_imports.specs.Offers as spec;
 ghost use Rattle.edl_imports.specs.ByName as by_name;
-ghost use Rattle.edl_imports.specs.Tables.{TellsPicks, TellsOffer};
+ghost use Rattle.edl_imports.specs.Tables.{TellsPicks, TellsOffer, IsTold, AreJoined};
 
 use crate::by_name::ByName;
 use edl_grammar::{EdlFile, FuncDecl, NameAt, Pick, SourceFile};
@@ -94,13 +94,6 @@ fn add_all(
     Ok(())
 }
 
-fn join(alloc: Global, picks: &mut Items<Pick>, more: &[Pick]) -> Result<(), AllocError>
-    ensures { OnOk result (picks.new ≡ spec.joined picks.old more.now) }
-{
-    let mut table = table_of(alloc, picks.as_slice())?;
-    add_all(picks, &mut table, more)
-}
-
 /// The declaration that a pick of a side stands for.
 pub(crate) fn picked(files: &[SourceFile], is_trusted: bool, pick: Pick) -> Option<&FuncDecl>
     ensures { option_map (λ f. f.now) result ≡ spec.picked files.now is_trusted pick }
@@ -111,9 +104,16 @@ pub(crate) fn picked(files: &[SourceFile], is_trusted: bool, pick: Pick) -> Opti
 
 /// The functions of an offer by table.
 #[derive(Drop)]
-struct Joined {
+pub(crate) struct Joined {
     trusted: IndexSet<(u32, u32)>,
     untrusted: IndexSet<(u32, u32)>,
+}
+
+/// An offer to which functions are joined, and those that it has by table.
+#[derive(Drop)]
+pub(crate) struct Growing {
+    pub offer: Offer,
+    pub tables: Joined,
 }
 
 impl Offer {
@@ -124,35 +124,70 @@ impl Offer {
         let untrusted = table_of(alloc, self.untrusted.as_slice())?;
         Ok(Joined { trusted, untrusted })
     }
+}
 
-    /// Puts all that is offered behind.
-    pub(crate) fn join(&mut self, alloc: Global, offered: &Offer) -> Result<(), AllocError>
-        ensures { OnOk result (self.new ≡ spec.both self.old offered.now) }
+impl Growing {
+    pub(crate) fn new(alloc: Global, offer: Offer) -> Result<Growing, AllocError>
+        ensures begins { IfOk result (λ growing. growing.offer ≡ offer) }
+        ensures told { IfOk result IsTold }
     {
-        join(alloc, &mut self.trusted, offered.trusted.as_slice())?;
-        join(alloc, &mut self.untrusted, offered.untrusted.as_slice())
+        let tables = offer.tables(alloc)?;
+        Ok(Growing { offer, tables })
     }
 
-    fn join_name(
-        &mut self,
-        tables: &mut Joined,
-        offered: &ByName<'_>,
-        name: &NameAt,
-    ) -> Result<(), AllocError>
-        ensures { OnOk result (TellsOffer tables.old self.old
-            → (self.new ≡ by_name.with_under offered.now self.old name.now) × TellsOffer tables.new self.new) }
+    /// Puts all that is offered behind.
+    pub(crate) fn join(&mut self, offered: &Offer) -> Result<(), AllocError>
+        requires { IsTold self.old }
+        ensures both { OnOk result (self.new.offer ≡ spec.both self.old.offer offered.now) }
+        ensures told { OnOk result (IsTold self.new) }
     {
-        let name = name.name.bytes();
         add_all(
-            &mut self.trusted,
-            &mut tables.trusted,
+            &mut self.offer.trusted,
+            &mut self.tables.trusted,
+            offered.trusted.as_slice(),
+        )?;
+        add_all(
+            &mut self.offer.untrusted,
+            &mut self.tables.untrusted,
+            offered.untrusted.as_slice(),
+        )
+    }
+
+    /// Puts the offered functions of this name behind.
+    fn join_name(&mut self, offered: &ByName<'_>, name: &[u8]) -> Result<(), AllocError>
+        requires { IsTold self.old }
+        ensures both { OnOk result (self.new.offer ≡ by_name.with_under offered.now self.old.offer name.now) }
+        ensures told { OnOk result (IsTold self.new) }
+    {
+        add_all(
+            &mut self.offer.trusted,
+            &mut self.tables.trusted,
             offered.trusted(name),
         )?;
         add_all(
-            &mut self.untrusted,
-            &mut tables.untrusted,
+            &mut self.offer.untrusted,
+            &mut self.tables.untrusted,
             offered.untrusted(name),
         )
+    }
+
+    /// The same, unless the name is among those of which it was done before.
+    fn join_once<'n>(
+        &mut self,
+        seen: &mut IndexSet<&'n [u8]>,
+        offered: &ByName<'_>,
+        name: &'n [u8],
+    ) -> Result<(), AllocError>
+        requires told { IsTold self.old }
+        requires joined { AreJoined seen.old offered.now self.old.offer }
+        ensures both { OnOk result (self.new.offer ≡ by_name.with_under offered.now self.old.offer name.now) }
+        ensures told { OnOk result (IsTold self.new) }
+        ensures joined { OnOk result (AreJoined seen.new offered.now self.new.offer) }
+    {
+        if seen.insert(name)? {
+            self.join_name(offered, name)?;
+        }
+        Ok(())
     }
 
     /// Puts the offered functions of these names behind, in the order of the names.
@@ -162,11 +197,13 @@ impl Offer {
         offered: &ByName<'_>,
         names: &[NameAt],
     ) -> Result<(), AllocError>
-        ensures { OnOk result (self.new ≡ by_name.with_all_under offered.now self.old names.now) }
+        requires { IsTold self.old }
+        ensures both { OnOk result (self.new.offer ≡ by_name.with_all_under offered.now self.old.offer names.now) }
+        ensures told { OnOk result (IsTold self.new) }
     {
-        let mut tables = self.tables(alloc)?;
+        let mut seen = IndexSet::new(alloc);
         for name in names {
-            self.join_name(&mut tables, offered, name)?;
+            self.join_once(&mut seen, offered, name.name.bytes())?;
         }
         Ok(())
     }

@@ -35,40 +35,40 @@ gather_file-returns-clause-err g t c =
 
 pub import_all-reached-requires : goal.import_all-reached-requires
 import_all-reached-requires g t c κs within =
-    let begun : IsBegun c.args.progress.now.files c.args.number c.in_ok-count.count c.in_ok-count.offer =
-    λ source h. c.in_ok-count.ensures source (ap (λ (fs : List SourceFile). slice_get fs c.args.number) c.as_slice.ensures ∙ h) in
-    let here = import_there c.args.progress.now.files c.loop-index.progress.files c.args.number c.loop-index.index c.in_ok-count.count c.in_ok-count.offer
+    let begun : IsBegun c.args.progress.now.files c.args.number c.in_ok-count.count c.in_ok-count.growing.offer =
+    λ source h. c.in_ok-count.ensures.begun source (ap (λ (fs : List SourceFile). slice_get fs c.args.number) c.as_slice.ensures ∙ h) in
+    let here = import_there c.args.progress.now.files c.loop-index.progress.files c.args.number c.loop-index.index c.in_ok-count.count c.in_ok-count.growing.offer
     c.loop-index.invariant.front c.requires.there begun c.loop-index-test.true in
     let more = front_more c.args.progress.now.files c.loop-index.progress.files c.loop-index.invariant.front in
     (search rules, (within, (here, (omega arith, c.loop-index.invariant.few))))
 
 pub import_all-returns-in_err-file-clause-err : goal.import_all-returns-in_err-file-clause-err
 import_all-returns-in_err-file-clause-err g t c = λ source is.
-    let begun = c.in_ok-count.ensures source (ap (λ (fs : List SourceFile). slice_get fs c.args.number) c.as_slice.ensures ∙ is) in
+    let begun = c.in_ok-count.ensures.begun source (ap (λ (fs : List SourceFile). slice_get fs c.args.number) c.as_slice.ensures ∙ is) in
     let here : (i : Import) × IsImport c.loop-index.progress.files (record { file = c.args.number; index = c.loop-index.index }) source i =
     import_here c.args.progress.now.files c.loop-index.progress.files c.args.number c.loop-index.index c.in_ok-count.count source c.loop-index.invariant.front is begun.0 c.loop-index-test.true in
     let h = turn_stops c.args.paths.now c.args.depth c.args.number source (g.F.Files.state c.args.files.now) (g.F.Files.state c.loop-index.files)
-    c.args.progress.now c.loop-index.progress c.loop-index.offer c.loop-index.index here.0 c.loop-index.invariant.kept here.1.«import» (c.loop-index.invariant.same source is)
+    c.args.progress.now c.loop-index.progress c.loop-index.growing.offer c.loop-index.index here.0 c.loop-index.invariant.kept here.1.«import» (c.loop-index.invariant.same source is)
     (g.F.Files.state c.reached.new.files) c.in_err-file.field-0.0 (c.in_err-file.ensures.err source here.0 here.1) in
     search rules
 
-pub import_all-take_from-requires : goal.import_all-take_from-requires
-import_all-take_from-requires g t c =
-    let begun : IsBegun c.args.progress.now.files c.args.number c.in_ok-count.count c.in_ok-count.offer =
-    λ source h. c.in_ok-count.ensures source (ap (λ (fs : List SourceFile). slice_get fs c.args.number) c.as_slice.ensures ∙ h) in
-    import_there c.args.progress.now.files c.reached.new.progress.files c.args.number c.loop-index.index c.in_ok-count.count c.in_ok-count.offer
+pub import_all-take_from-requires-clause-there : goal.import_all-take_from-requires-clause-there
+import_all-take_from-requires-clause-there g t c =
+    let begun : IsBegun c.args.progress.now.files c.args.number c.in_ok-count.count c.in_ok-count.growing.offer =
+    λ source h. c.in_ok-count.ensures.begun source (ap (λ (fs : List SourceFile). slice_get fs c.args.number) c.as_slice.ensures ∙ h) in
+    import_there c.args.progress.now.files c.reached.new.progress.files c.args.number c.loop-index.index c.in_ok-count.count c.in_ok-count.growing.offer
     (front_then c.args.progress.now.files c.loop-index.progress.files c.reached.new.progress.files c.loop-index.invariant.front c.in_ok-file.ensures.front)
     c.requires.there begun c.loop-index-test.true
 
 pub import_all-returns-in_err-take_from-clause-err :
     goal.import_all-returns-in_err-take_from-clause-err
 import_all-returns-in_err-take_from-clause-err g t c = λ source is.
-    let begun = c.in_ok-count.ensures source (ap (λ (fs : List SourceFile). slice_get fs c.args.number) c.as_slice.ensures ∙ is) in
+    let begun = c.in_ok-count.ensures.begun source (ap (λ (fs : List SourceFile). slice_get fs c.args.number) c.as_slice.ensures ∙ is) in
     let here : (i : Import) × IsImport c.loop-index.progress.files (record { file = c.args.number; index = c.loop-index.index }) source i =
     import_here c.args.progress.now.files c.loop-index.progress.files c.args.number c.loop-index.index c.in_ok-count.count source c.loop-index.invariant.front is begun.0 c.loop-index-test.true in
     let still = import_still c.loop-index.progress.files c.reached.new.progress.files (record { file = c.args.number; index = c.loop-index.index }) source here.0 c.in_ok-file.ensures.front here.1 in
     let h = turn_refused c.args.paths.now c.args.depth c.args.number source (g.F.Files.state c.args.files.now) (g.F.Files.state c.loop-index.files)
-    c.args.progress.now c.loop-index.progress c.loop-index.offer c.loop-index.index here.0 c.loop-index.invariant.kept here.1.«import» (c.loop-index.invariant.same source is)
+    c.args.progress.now c.loop-index.progress c.loop-index.growing.offer c.loop-index.index here.0 c.loop-index.invariant.kept here.1.«import» (c.loop-index.invariant.same source is)
     c.reached.new.progress c.in_ok-file.file (c.in_ok-file.ensures.ok source here.0 here.1)
     (g.F.Files.state c.reached.new.files) c.in_err-take_from.field-0.0 (c.in_err-take_from.ensures.err source here.0 still) in
     search rules
@@ -78,21 +78,22 @@ import_all-loop-index-preserved g t c = record {
   kept = read_twice (g.F.Files.state c.args.files.now) (g.F.Files.state c.loop-index.files) (g.F.Files.state c.reached.new.files) c.loop-index.invariant.kept c.in_ok-file.ensures.kept;
   front = front_then c.args.progress.now.files c.loop-index.progress.files c.reached.new.progress.files c.loop-index.invariant.front c.in_ok-file.ensures.front;
   few = c.in_ok-file.ensures.few;
+  told = c.in_ok-take_from.ensures.told;
   come = λ contents root is all. c.in_ok-file.ensures.come contents root (c.loop-index.invariant.kept.contents ∙ is) (c.loop-index.invariant.come contents root is all);
   same = λ source is.
-      let begun = c.in_ok-count.ensures source (ap (λ (fs : List SourceFile). slice_get fs c.args.number) c.as_slice.ensures ∙ is) in
+      let begun = c.in_ok-count.ensures.begun source (ap (λ (fs : List SourceFile). slice_get fs c.args.number) c.as_slice.ensures ∙ is) in
       let here : (i : Import) × IsImport c.loop-index.progress.files (record { file = c.args.number; index = c.loop-index.index }) source i =
       import_here c.args.progress.now.files c.loop-index.progress.files c.args.number c.loop-index.index c.in_ok-count.count source c.loop-index.invariant.front is begun.0 c.loop-index-test.true in
       let still = import_still c.loop-index.progress.files c.reached.new.progress.files (record { file = c.args.number; index = c.loop-index.index }) source here.0 c.in_ok-file.ensures.front here.1 in
       turned c.args.paths.now c.args.depth c.args.number source (g.F.Files.state c.args.files.now) (g.F.Files.state c.loop-index.files)
-      c.args.progress.now c.loop-index.progress c.loop-index.offer c.loop-index.index here.0 c.loop-index.invariant.kept here.1.«import» (c.loop-index.invariant.same source is)
-      c.reached.new.progress c.in_ok-file.file (c.in_ok-file.ensures.ok source here.0 here.1) c.take_from.new.offer (c.in_ok-take_from.ensures.ok source here.0 still);
+      c.args.progress.now c.loop-index.progress c.loop-index.growing.offer c.loop-index.index here.0 c.loop-index.invariant.kept here.1.«import» (c.loop-index.invariant.same source is)
+      c.reached.new.progress c.in_ok-file.file (c.in_ok-file.ensures.ok source here.0 here.1) c.take_from.new.growing.offer (c.in_ok-take_from.ensures.ok source here.0 still);
 }
 
 pub import_all-returns-clause-ok : goal.import_all-returns-clause-ok
 import_all-returns-clause-ok g t c = λ source is.
-    let begun = c.in_ok-count.ensures source (ap (λ (fs : List SourceFile). slice_get fs c.args.number) c.as_slice.ensures ∙ is) in
-    all_turned c.args.paths.now c.args.depth c.args.number source (g.F.Files.state c.args.files.now) c.args.progress.now c.loop-index.progress c.loop-index.offer c.loop-index.index
+    let begun = c.in_ok-count.ensures.begun source (ap (λ (fs : List SourceFile). slice_get fs c.args.number) c.as_slice.ensures ∙ is) in
+    all_turned c.args.paths.now c.args.depth c.args.number source (g.F.Files.state c.args.files.now) c.args.progress.now c.loop-index.progress c.loop-index.growing.offer c.loop-index.index
     (let l = begun.0 in omega arith) (c.loop-index.invariant.same source is)
 
 pub reached-returns-in_err-file-clause-err : goal.reached-returns-in_err-file-clause-err
@@ -144,15 +145,15 @@ import_all-returns-in_err-file-clause-come g t c = λ contents root is all.
 
 pub import_all-returns-in_err-take_from-clause-come : goal.import_all-returns-in_err-take_from-clause-come
 import_all-returns-in_err-take_from-clause-come g t c = λ contents root is all.
-    let begun : IsBegun c.args.progress.now.files c.args.number c.in_ok-count.count c.in_ok-count.offer =
-    λ source h. c.in_ok-count.ensures source (ap (λ (fs : List SourceFile). slice_get fs c.args.number) c.as_slice.ensures ∙ h) in
-    let there = import_there c.args.progress.now.files c.reached.new.progress.files c.args.number c.loop-index.index c.in_ok-count.count c.in_ok-count.offer
+    let begun : IsBegun c.args.progress.now.files c.args.number c.in_ok-count.count c.in_ok-count.growing.offer =
+    λ source h. c.in_ok-count.ensures.begun source (ap (λ (fs : List SourceFile). slice_get fs c.args.number) c.as_slice.ensures ∙ h) in
+    let there = import_there c.args.progress.now.files c.reached.new.progress.files c.args.number c.loop-index.index c.in_ok-count.count c.in_ok-count.growing.offer
     (front_then c.args.progress.now.files c.loop-index.progress.files c.reached.new.progress.files c.loop-index.invariant.front c.in_ok-file.ensures.front)
     c.requires.there begun c.loop-index-test.true in
     let h = take_stops contents c.args.paths.now root c.reached.new.progress.files
     (c.in_ok-file.ensures.come contents root (c.loop-index.invariant.kept.contents ∙ is) (c.loop-index.invariant.come contents root is all))
     (record { file = c.args.number; index = c.loop-index.index }) there.source there.«import» there.is
-    c.reached.new.progress c.loop-index.offer c.in_ok-file.file c.in_err-take_from.field-0.0 (c.in_err-take_from.ensures.err there.source there.«import» there.is) in
+    c.reached.new.progress c.loop-index.growing.offer c.in_ok-file.file c.in_err-take_from.field-0.0 (c.in_err-take_from.ensures.err there.source there.«import» there.is) in
     search rules
 
 pub reached-returns-in_err-file-clause-come : goal.reached-returns-in_err-file-clause-come

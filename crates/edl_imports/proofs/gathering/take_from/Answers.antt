@@ -8,7 +8,7 @@ use Rattle.edl_imports.proofs.gathering.take_from.Goals as goal
 
 pub returns-in_err-offered-clause-err : goal.returns-in_err-offered-clause-err
 returns-in_err-offered-clause-err c = λ source i is.
-    let h = offered_stops c.args.progress.now c.args.at c.args.file c.args.offer.now
+    let h = offered_stops c.args.progress.now c.args.at c.args.file c.args.growing.now.offer
     c.import_at-importing.result.number source c.import_at-importing.result.source.now i c.import_at-importing.result.import.now _ c.in_err-offered.field-0.0
     c.import_at-importing.ensures.number
     (subst (λ (fs : List SourceFile). IsImport fs c.args.at c.import_at-importing.result.source.now c.import_at-importing.result.import.now) c.as_slice-files.ensures c.import_at-importing.ensures.is)
@@ -17,7 +17,7 @@ returns-in_err-offered-clause-err c = λ source i is.
 
 pub returns-clause-err : goal.returns-clause-err
 returns-clause-err c = λ source i is.
-    taken_stops c.args.progress.now c.args.at c.args.file c.args.offer.now
+    taken_stops c.args.progress.now c.args.at c.args.file c.args.growing.now.offer
     c.import_at-importing.result.number source c.import_at-importing.result.source.now i c.import_at-importing.result.import.now _
     c.as_slice-files.result.now c.in_ok-offered.offered.now c.take.result c.as_slice-files.ensures
     c.import_at-importing.ensures.number
