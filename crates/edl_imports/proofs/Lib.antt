@@ -12,3 +12,4 @@ pub mod AloneLaws
 pub mod ReachLaws
 pub mod TakenLaws
 pub mod CycleLaws
+pub mod FinishLaws

@@ -58,7 +58,7 @@ new_candidate store read (name ∷ names) f h = by (file_of store read name) ref
     by None is h rest = let there = rest h in (suc there.0, omega (arith, there.1), there.2)
     by (Some g) is h rest = (0, omega arith, sym (name_of_new name (number_of read name) (store name) f (is ∙ h)))
 
-admitted_new : (number : ℕ) (source : SourceFile) (read : List SourceFile) (i : Import) (o : Option Found) (f : NewFile) → admitted number source read i o ≡ Ok (New f) → o ≡ Some (New f)
+pub admitted_new : (number : ℕ) (source : SourceFile) (read : List SourceFile) (i : Import) (o : Option Found) (f : NewFile) → admitted number source read i o ≡ Ok (New f) → o ≡ Some (New f)
 admitted_new number source read i None f h = absurd cc
 admitted_new number source read i (Some (Known n)) f h = absurd cc
 admitted_new number source read i (Some (New g)) f h = by (length read == max_files) refl
@@ -67,7 +67,7 @@ admitted_new number source read i (Some (New g)) f h = by (length read == max_fi
     by true e = let no : admitted number source read i (Some (New g)) ≡ fail source.name (causes.TooManyFiles (fault_at number source i.token 11)) = rw e refl in absurd cc
     by false e = let yes : admitted number source read i (Some (New g)) ≡ Ok (New g) = rw e refl in cc
 
-source_named : (number : ℕ) (f : NewFile) (source : SourceFile) → read_source number f ≡ Ok source → source.name ≡ f.name
+pub source_named : (number : ℕ) (f : NewFile) (source : SourceFile) → read_source number f ≡ Ok source → source.name ≡ f.name
 source_named number f source h = by (lexing number f.bytes) h
   where
     by_tree : (tokens : List Token) (r : Result EdlFile ParseFault) → read_tree f.name tokens r ≡ Ok source → source.name ≡ f.name

@@ -111,3 +111,28 @@ abbrev pub CycleIsRefused : Type 0
 CycleIsRefused = (store : Store) (paths : List (List ℕ)) (root bytes : List ℕ) (more : ℕ) (e : ImportFault)
     → store root ≡ Some bytes → LeadsBack store paths more [] (record { name = root; bytes = bytes }) e
     → gathering store paths root ≡ Err e
+
+module _ (store : Store) (paths : List (List ℕ)) (files : List SourceFile) where
+  -- an import of the file of the first number finds the file of the second
+  pub record ImportFinds (k n : ℕ) : Type 0 where
+    pub source : SourceFile
+    pub «import» : Import
+    pub there : slice_get files k ≡ Some source
+    pub among : Contains source.tree.imports «import»
+    pub finds : first_file store files (candidates paths «import».text) ≡ Some (Known n)
+
+  -- the first file leads to the second by an import, or by those of so many files between
+  abbrev pub LeadsTo : ℕ → ℕ → ℕ → Type 0
+  LeadsTo zero k n = ImportFinds k n
+  LeadsTo (suc between) k n = (m : ℕ) × ImportFinds k m × LeadsTo between m n
+
+-- no gathered file lies on a cycle of imports, of whatever length
+abbrev pub NoneLeadsToItself : Type 0
+NoneLeadsToItself = (store : Store) (paths : List (List ℕ)) (root : List ℕ) (g : Gathered) → gathering store paths root ≡ Ok g
+    → (between k : ℕ) → LeadsTo store paths g.files between k k → ⊥
+
+-- each import of a gathered file finds a gathered file
+abbrev pub EachImportIsGathered : Type 0
+EachImportIsGathered = (store : Store) (paths : List (List ℕ)) (root : List ℕ) (g : Gathered) → gathering store paths root ≡ Ok g
+    → (k : ℕ) (f : SourceFile) (i : Import) → slice_get g.files k ≡ Some f → Contains f.tree.imports i
+    → (n : ℕ) × (first_file store g.files (candidates paths i.text) ≡ Some (Known n))

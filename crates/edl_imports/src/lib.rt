@@ -9,6 +9,7 @@ ghost use Rattle.edl_imports.specs.ComeTo.{IsNameOf, IsReached};
 ghost use Rattle.edl_imports.specs.Examples.{Examples};
 ghost use Rattle.edl_imports.specs.Gathering.{gathering};
 ghost use Rattle.edl_imports.specs.Laws.{IsAlone, OwnImportIsCycle, CycleIsRefused, EachIsReached};
+ghost use Rattle.edl_imports.specs.Laws.{EachImportIsGathered, NoneLeadsToItself};
 ghost use Rattle.edl_imports.specs.Laws.{EachIsTakenOnce, FirstPlaceStays, TypesStandApart};
 
 mod by_name;
@@ -84,6 +85,12 @@ pub fn reached_law()
 /// A cycle of imports is refused at the import that closes it, whatever its length.
 pub fn cycle_law()
     ensures { CycleIsRefused }
+{}
+
+/// Each import of a gathered file finds a gathered file, and none of these lies on a cycle of imports.
+pub fn finish_law()
+    ensures gathered { EachImportIsGathered }
+    ensures apart { NoneLeadsToItself }
 {}
 
 /// Each function is taken once, and keeps its first place.
