@@ -1,0 +1,4 @@
+pub mod CauseLaws
+pub mod InterfaceLaws
+pub mod ReadLaws
+pub mod SourceLaws

@@ -1,0 +1,4 @@
+pub mod Accepted
+pub mod Paths
+pub mod Sources
+pub mod Told
