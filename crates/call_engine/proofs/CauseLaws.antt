@@ -1,25 +1,30 @@
 -- How the causes at which the preparing ends are told.
-use Rattle.std.proofs.Common.{ℕ, ◌≡◌, ◌⊎◌, inl, inr, List, Option, Some, None, IfSome, IfOk, IfErr, Result, Ok, Err, refl, sym, ◌∙◌, subst, arith, ◌≤◌}
+use Rattle.std.proofs.Common.{ℕ, ◌≡◌, ◌⊎◌, inl, inr, Bool, true, false, List, Option, Some, None, IfSome, IfOk, IfErr, Result, Ok, Err, refl, sym, ap, ◌∙◌, subst, arith, ◌≤◌}
 use Rattle.sgx_base.specs.Counts.{Rose}
 use Rattle.sgx_base.specs.Outcome.{OrMemory}
 use Rattle.sgx_base.specs.Stores.{Store, FilesState, Holds, AreOnlyRead}
 use Rattle.sgx_base.specs.declared.Fault.{Fault}
 use Rattle.edl_grammar.specs.declared.Gathered.{Gathered}
 use Rattle.edl_grammar.specs.declared.SourceFile.{SourceFile}
-use Rattle.edl_imports.specs.declared.faults.ImportFault.{ImportFault}
-use Rattle.edl_imports.specs.declared.faults.ImportCause.{ImportCause}
-use Rattle.edl_imports.specs.declared.faults.ImportCause.TheVariants as causes
-use Rattle.edl_imports.specs.Causes.{IsFault, IsStated}
-use Rattle.edl_imports.specs.ComeTo.{IsComeTo, IsNameOf}
-use Rattle.edl_imports.specs.Gathering.{gathering, name_at}
-use Rattle.attr_rules.specs.declared.RuleFault.{RuleFault}
-use Rattle.attr_rules.specs.declared.RuleFault.TheVariants as rule
+use Rattle.edl_layout.specs.declared.ForeignTypes.{ForeignTypes}
+use Rattle.edl_imports.specs.Gathering.{name_at}
+use Rattle.edl_interface.specs.declared.Interface.{Interface}
+use Rattle.attr_rules.specs.ForRun.{AreForRun}
+use Rattle.edl_reader.specs.declared.faults.SourceFault.{SourceFault}
+use Rattle.edl_reader.specs.declared.faults.SourceFault.TheVariants as source
+use Rattle.edl_reader.specs.Accepted.{IsAccepted, IsRefused}
+use Rattle.edl_reader.specs.Sources.{IsRoot, IsNoRoot, GivesRoot, GivesNoRoot, AreParsed, IsUngathered}
+use Rattle.edl_reader.specs.Sources as sources
+use Rattle.script_reader.specs.Foreign.{foreign_types}
+use Rattle.call_script.specs.declared.Script.{Script}
 use Rattle.call_machine.specs.declared.Machine.{Machine}
 use Rattle.call_engine.specs.declared.faults.PrepareFault.{PrepareFault}
-use Rattle.call_engine.specs.declared.faults.PrepareFault.TheVariants.{Edl, Script as of_script, NotFound, ReadFault, Memory}
-use Rattle.call_engine.specs.Told.{Told, of_lexer, of_parser, of_file, of_cause}
-use Rattle.call_engine.specs.Interfaces.{IsRefused}
-use Rattle.call_engine.specs.Prepared.{IsRoot, Prepares, ungathered, no_script, refused, faulty, machine, GivesRoot, FilesGive, IsUnprepared, IsUnread, IsEdlFault, IsMachineOf, IsMachineFault}
+use Rattle.call_engine.specs.declared.faults.PrepareFault.TheVariants.{Edl, Script as of_line, NotFound, ReadFault, Memory}
+use Rattle.call_engine.specs.Told.{of_source, IsEdlFault, IsFaultOf}
+use Rattle.call_engine.specs.Interfaces.{AreKnown, IsTaken, IsUntaken, broken, other, not_taken}
+use Rattle.call_engine.specs.Taken.{is_taken}
+use Rattle.call_engine.specs.Plain.{plain_script}
+use Rattle.call_engine.specs.Prepared.{Prepares, ungathered, no_script, untaken, faulty, machine, IsInterface, HasNoInterface, HasNoScript, in_types, in_script, IsMachineOf, IsMachineFault, FilesGive, IsUnprepared, IsUnread}
 
 -- where the contents are told, one fact follows from two others
 both : {P Q R : Store → Type 0} (contents : Option Store) → ((store : Store) → P store → Q store → R store) → IfSome contents P → IfSome contents Q → IfSome contents R
@@ -39,75 +44,120 @@ or_memory : {M P Q : Type 0} → (P → Q) → M ⊎ P → M ⊎ Q
 or_memory step (inl m) = inl m
 or_memory step (inr h) = inr (step h)
 
--- a fault that is told of gathered files
-pub edl_fault : (Is : Fault → Type 0) (files : List SourceFile) (e : RuleFault) (fault : PrepareFault) → OrMemory rule.Memory (Told Is) e
-    → OrMemory Memory (IsEdlFault files (λ f. e ≡ rule.Rule f)) fault → OrMemory Memory (IsEdlFault files Is) fault
-edl_fault Is files e fault t = or_memory (is_so fault)
-  where
-    told : (f : Fault) → e ≡ rule.Rule f → OrMemory rule.Memory (Told Is) e → Is f
-    told f is (inl m) = let clash : rule.Rule f ≡ rule.Memory = sym is ∙ m in absurd cc
-    told f is (inr h) = subst (Told Is) is h
+-- ---- the interface
 
-    is_so : (fault : PrepareFault) → IsEdlFault files (λ f. e ≡ rule.Rule f) fault → IsEdlFault files Is fault
-    is_so (Edl name f) h = (h.0, told f h.1 t)
-    is_so (of_script line code) h = absurd h
-    is_so (NotFound name) h = absurd h
-    is_so (ReadFault name) h = absurd h
-    is_so Memory h = absurd h
+pub for_run : (g : Gathered) (foreign : ForeignTypes) → AreParsed g → AreKnown foreign → AreForRun g foreign
+for_run g foreign parsed known =
+    record { strict = known.strict; aligned = known.aligned; trees = parsed.trees; names = parsed.names }
+
+-- a fault of gathered files is told
+pub edl_told : (files : List SourceFile) (Is : Fault → Type 0) (e : SourceFault)
+    → OrMemory source.Memory (sources.IsEdlFault files Is) e → OrMemory Memory (IsEdlFault files Is) (of_source e)
+edl_told files Is e (inl m) = inl (ap of_source m)
+edl_told files Is e (inr h) = inr (told e h)
+  where
+    told : (e : SourceFault) → sources.IsEdlFault files Is e → IsEdlFault files Is (of_source e)
+    told (source.Edl name f) h = h
+    told (source.NotFound name) h = absurd h
+    told (source.ReadFault name) h = absurd h
+    told source.Memory h = absurd h
+
+edl_weaker : (files : List SourceFile) (P Q : Fault → Type 0) → ((f : Fault) → P f → Q f) → (fault : PrepareFault)
+    → IsEdlFault files P fault → IsEdlFault files Q fault
+edl_weaker files P Q step (Edl name f) h = (h.0, step f h.1)
+edl_weaker files P Q step (of_line line code) h = absurd h
+edl_weaker files P Q step (NotFound name) h = absurd h
+edl_weaker files P Q step (ReadFault name) h = absurd h
+edl_weaker files P Q step Memory h = absurd h
+
+module _ (g : Gathered) (foreign : ForeignTypes) where
+  -- the files break a rule
+  pub broken_told : (fault : PrepareFault) → OrMemory Memory (IsEdlFault g.files (IsRefused g foreign true)) fault
+      → OrMemory Memory (IsEdlFault g.files (IsUntaken g foreign)) fault
+  broken_told fault = or_memory (edl_weaker g.files (IsRefused g foreign true) (IsUntaken g foreign) (λ f. broken) fault)
+
+  -- the runner does not take their interface
+  pub other_told : (i : Interface) → IsAccepted g foreign true i → is_taken i ≡ false → (files : List SourceFile)
+      → files ≡ g.files → (fault : PrepareFault) → OrMemory Memory (IsEdlFault files (λ f. f ≡ not_taken)) fault
+      → OrMemory Memory (IsEdlFault g.files (IsUntaken g foreign)) fault
+  other_told i accepted taken files same fault h =
+      or_memory (edl_weaker g.files (λ f. f ≡ not_taken) (IsUntaken g foreign) (λ f. other i accepted taken) fault)
+      (subst (λ fs. OrMemory Memory (IsEdlFault fs (λ f. f ≡ not_taken)) fault) same h)
 
 -- ---- the gathering
 
-module _ (paths : List (List ℕ)) (edl script : List ℕ) (before after : FilesState) where
+module _ (racing : Bool) (paths : List (List ℕ)) (edl script : List ℕ) (before after : FilesState) where
   abbrev Tells : PrepareFault → Type 0
-  Tells = OrMemory Memory (IsUnprepared paths edl script before after)
+  Tells = OrMemory Memory (IsUnprepared racing paths edl script before after)
 
-  abbrev Stated : List ℕ → ImportCause → Type 0
-  Stated name cause = IsStated before (λ store. gathering store paths edl) (record { name = name; cause = cause })
+  given : (e : SourceFault) → GivesNoRoot before paths edl e → FilesGive racing before paths edl script (Err (of_source e))
+  given e = one {P = λ store. IsNoRoot store paths edl e} {R = λ store. Prepares racing store paths edl script (Err (of_source e))}
+      before.contents (λ store is. ungathered e is)
 
-  given : (name : List ℕ) (cause : ImportCause) → Stated name cause → FilesGive before paths edl script (Err (of_cause name cause))
-  given name cause = one {P = λ store. gathering store paths edl ≡ Err (record { name = name; cause = cause })} {R = λ store. Prepares store paths edl script (Err (of_cause name cause))} before.contents
-      (λ store is. ungathered (record { name = name; cause = cause }) is)
-
-  -- a fault of a file, or want of memory
-  in_file : (name : List ℕ) (e : RuleFault) → IsComeTo before.contents paths edl name → FilesGive before paths edl script (Err (of_file name e)) → Tells (of_file name e)
-  in_file name (rule.Rule f) come h = inr (inl come, h)
-  in_file name rule.Memory come h = inl refl
-
-  by_cause : (name : List ℕ) (cause : ImportCause) → IsFault paths before after (λ store. gathering store paths edl) (record { name = name; cause = cause })
-      → IsNameOf before.contents paths edl cause name → Tells (of_cause name cause)
-  by_cause name causes.NotFound h named = inr (h.0, inl named, given name causes.NotFound h.1)
-  by_cause name (causes.Cycle f) h named = inr (inl named, given name (causes.Cycle f) h)
-  by_cause name (causes.NoSuchName f) h named = inr (inl named, given name (causes.NoSuchName f) h)
-  by_cause name (causes.Conflict f) h named = inr (inl named, given name (causes.Conflict f) h)
-  by_cause name (causes.TooManyFiles f) h named = inr (inl named, given name (causes.TooManyFiles f) h)
-  by_cause name (causes.Lex e) h named = in_file name (of_lexer e) named (given name (causes.Lex e) h)
-  by_cause name (causes.Parse e) h named = in_file name (of_parser e) named (given name (causes.Parse e) h)
-  by_cause name causes.ReadFault h named = inr (h, inl named)
-  by_cause name causes.Memory h named = inl refl
+  by_cause : (e : SourceFault) → IsUngathered paths edl before after e → Tells (of_source e)
+  by_cause (source.Edl name f) h = inr (inl h.0, given (source.Edl name f) h.1)
+  by_cause (source.NotFound name) h = inr (h.0, inl h.1, given (source.NotFound name) h.2)
+  by_cause (source.ReadFault name) h = inr (h.0, inl h.1)
+  by_cause source.Memory h = absurd h
 
   -- the files were not gathered
-  pub not_gathered : (e : ImportFault) (fault : PrepareFault) → IsFault paths before after (λ store. gathering store paths edl) e
-      → IsNameOf before.contents paths edl e.cause e.name → OrMemory Memory (λ told. told ≡ of_cause e.name e.cause) fault → Tells fault
-  not_gathered e fault h named (inl m) = inl m
-  not_gathered e fault h named (inr is) = subst Tells (sym is) (by_cause e.name e.cause h named)
+  pub not_gathered : (e : SourceFault) → OrMemory source.Memory (IsUngathered paths edl before after) e → Tells (of_source e)
+  not_gathered e (inl m) = inl (ap of_source m)
+  not_gathered e (inr h) = by_cause e h
 
 -- ---- the machine
 
--- the files have no interface that is taken
-machine_of_refused : (g : Gathered) (text : List ℕ) (fault : PrepareFault) → IsEdlFault g.files (IsRefused g) fault → IsMachineFault g text fault
-machine_of_refused g text (Edl name f) h = h
-machine_of_refused g text (ReadFault name) h = absurd h
-machine_of_refused g text (NotFound name) h = absurd h
-machine_of_refused g text (of_script line code) h = absurd h
-machine_of_refused g text Memory h = absurd h
+module _ (racing : Bool) (g : Gathered) (text : List ℕ) where
+  types_fault : (fault : PrepareFault) → IsFaultOf (foreign_types text) fault → IsMachineFault racing g text fault
+  types_fault (of_line line code) h = in_types h
+  types_fault (Edl name f) h = absurd h
+  types_fault (NotFound name) h = absurd h
+  types_fault (ReadFault name) h = absurd h
+  types_fault Memory h = absurd h
 
-pub machine_refused : (g : Gathered) (text : List ℕ) (fault : PrepareFault) → OrMemory Memory (IsEdlFault g.files (IsRefused g)) fault
-    → OrMemory Memory (IsMachineFault g text) fault
-machine_refused g text fault = or_memory (machine_of_refused g text fault)
+  -- a fault of the script's foreign types
+  pub misdeclared : (fault : PrepareFault) → OrMemory Memory (IsFaultOf (foreign_types text)) fault
+      → OrMemory Memory (IsMachineFault racing g text) fault
+  misdeclared fault = or_memory (types_fault fault)
+
+  files_fault : (foreign : ForeignTypes) → foreign_types text ≡ Ok foreign → (fault : PrepareFault)
+      → IsEdlFault g.files (IsUntaken g foreign) fault → IsMachineFault racing g text fault
+  files_fault foreign declared (Edl name f) h =
+      (h.0, record { foreign = foreign; declared = declared; untaken = h.1 })
+  files_fault foreign declared (of_line line code) h = absurd h
+  files_fault foreign declared (NotFound name) h = absurd h
+  files_fault foreign declared (ReadFault name) h = absurd h
+  files_fault foreign declared Memory h = absurd h
+
+  -- the files have no interface that is taken
+  pub no_interface : (foreign : ForeignTypes) → foreign_types text ≡ Ok foreign → (result : Result Interface PrepareFault)
+      → IfErr result (OrMemory Memory (IsEdlFault g.files (IsUntaken g foreign)))
+      → IfErr result (OrMemory Memory (IsMachineFault racing g text))
+  no_interface foreign declared (Ok i) h = tt
+  no_interface foreign declared (Err fault) h = or_memory (files_fault foreign declared fault) h
+
+  script_fault : (i : Interface) → IsInterface g text i → (fault : PrepareFault)
+      → IsFaultOf (plain_script i racing text) fault → IsMachineFault racing g text fault
+  script_fault i interface (of_line line code) h = in_script i interface h
+  script_fault i interface (Edl name f) h = absurd h
+  script_fault i interface (NotFound name) h = absurd h
+  script_fault i interface (ReadFault name) h = absurd h
+  script_fault i interface Memory h = absurd h
+
+  -- the script breaks a rule
+  pub no_plain_script : (i : Interface) → IsInterface g text i → (fault : PrepareFault)
+      → OrMemory Memory (IsFaultOf (plain_script i racing text)) fault
+      → OrMemory Memory (IsMachineFault racing g text) fault
+  no_plain_script i interface fault = or_memory (script_fault i interface fault)
+
+pub an_interface : (g : Gathered) (text : List ℕ) (foreign : ForeignTypes) → foreign_types text ≡ Ok foreign
+    → (result : Result Interface PrepareFault) → IfOk result (IsTaken g foreign) → IfOk result (IsInterface g text)
+an_interface g text foreign declared (Ok i) h = record { foreign = foreign; declared = declared; taken = h }
+an_interface g text foreign declared (Err fault) h = tt
 
 -- ---- the script
 
-module _ (paths : List (List ℕ)) (edl script : List ℕ) (g : Gathered) where
+module _ (racing : Bool) (paths : List (List ℕ)) (edl script : List ℕ) (g : Gathered) where
   -- what the script holds, told of the contents before
   found_before : (items text : List ℕ) (before middle : FilesState) → AreOnlyRead before middle → text ≡ items → Holds middle script (Some items)
       → Holds before script (Some text)
@@ -117,60 +167,59 @@ module _ (paths : List (List ℕ)) (edl script : List ℕ) (g : Gathered) where
 
   -- the script is not there, or could not be read
   script_unread : (before middle after : FilesState) (fault : PrepareFault) → AreOnlyRead before middle → GivesRoot before paths edl g
-      → IsUnread script middle after fault → IsUnprepared paths edl script before after fault
+      → IsUnread script middle after fault → IsUnprepared racing paths edl script before after fault
   script_unread before middle after (ReadFault name) kept root h =
       (rose_later before.read_faults middle.read_faults after.read_faults kept.read_faults h.1, inr (h.0, g, root))
   script_unread before middle after (NotFound name) kept root h =
       let none : Holds before script None = subst (λ (c : Option Store). IfSome c (λ store. store script ≡ None)) kept.contents h.2 in (
         inl (rose_later before.misses middle.misses after.misses kept.misses h.1),
         inr (h.0, g, root),
-        subst (λ (n : List ℕ). FilesGive before paths edl script (Err (NotFound n))) (sym h.0)
-            (both {P = λ store. IsRoot store paths edl g} {Q = λ store. store script ≡ None} {R = λ store. Prepares store paths edl script (Err (NotFound script))} before.contents
+        subst (λ (n : List ℕ). FilesGive racing before paths edl script (Err (NotFound n))) (sym h.0)
+            (both {P = λ store. IsRoot store paths edl g} {Q = λ store. store script ≡ None} {R = λ store. Prepares racing store paths edl script (Err (NotFound script))} before.contents
             (λ store r n. no_script g r n) root.told none),
       )
   script_unread before middle after (Edl name f) kept root h = absurd h
-  script_unread before middle after (of_script line code) kept root h = absurd h
+  script_unread before middle after (of_line line code) kept root h = absurd h
   script_unread before middle after Memory kept root h = absurd h
 
   pub unread_script : (before middle after : FilesState) (fault : PrepareFault) → AreOnlyRead before middle → GivesRoot before paths edl g
-      → OrMemory Memory (IsUnread script middle after) fault → OrMemory Memory (IsUnprepared paths edl script before after) fault
+      → OrMemory Memory (IsUnread script middle after) fault → OrMemory Memory (IsUnprepared racing paths edl script before after) fault
   unread_script before middle after fault kept root = or_memory (script_unread before middle after fault kept root)
+
+  -- the files are read, and give this answer
+  answered : (text : List ℕ) (files : FilesState) (answer : Result Machine PrepareFault) → GivesRoot files paths edl g
+      → Holds files script (Some text)
+      → ((store : Store) → IsRoot store paths edl g → store script ≡ Some text → Prepares racing store paths edl script answer)
+      → FilesGive racing files paths edl script answer
+  answered text files answer root found step =
+      both {P = λ store. IsRoot store paths edl g} {Q = λ store. store script ≡ Some text} {R = λ store. Prepares racing store paths edl script answer}
+      files.contents step root.told found
 
   -- the files are read, and give no machine
   none_given : (text : List ℕ) (before after : FilesState) (fault : PrepareFault) → GivesRoot before paths edl g
-      → Holds before script (Some text) → IsMachineFault g text fault → IsUnprepared paths edl script before after fault
+      → Holds before script (Some text) → IsMachineFault racing g text fault → IsUnprepared racing paths edl script before after fault
   none_given text before after (Edl name f) root found h = (
-    inr (g, root, h.1, h.0),
-    subst (λ (n : List ℕ). FilesGive before paths edl script (Err (Edl n f))) (sym h.0)
-        (both {P = λ store. IsRoot store paths edl g} {Q = λ store. store script ≡ Some text} {R = λ store. Prepares store paths edl script (Err (Edl (name_at g.files f.file) f))} before.contents
-        (λ store r t. refused g text f r t h.1) root.told found),
+    inr (record { gathered = g; root = root; text = text; held = found; untaken = h.1; named = h.0 }),
+    subst (λ (n : List ℕ). FilesGive racing before paths edl script (Err (Edl n f))) (sym h.0)
+        (answered text before (Err (Edl (name_at g.files f.file) f)) root found (λ store r t. untaken g text f r t h.1)),
   )
-  none_given text before after (of_script line code) root found (i, taken, is) =
-      subst (λ (n : ℕ). FilesGive before paths edl script (Err (of_script line n))) (sym is.1)
-      (both {P = λ store. IsRoot store paths edl g} {Q = λ store. store script ≡ Some text} {R = λ store. Prepares store paths edl script (Err (of_script line 1))} before.contents
-      (λ store r t. faulty g text i line r t taken is.0) root.told found)
+  none_given text before after (of_line line code) root found h =
+      answered text before (Err (of_line line code)) root found (λ store r t. faulty g text line code r t h)
   none_given text before after (ReadFault name) root found h = absurd h
   none_given text before after (NotFound name) root found h = absurd h
   none_given text before after Memory root found h = absurd h
 
-  -- the files are read, and give a machine
-  machine_given : (text : List ℕ) (m : Machine) (files : FilesState) → GivesRoot files paths edl g
-      → Holds files script (Some text) → IsMachineOf g text m → FilesGive files paths edl script (Ok m)
-  machine_given text m files root found h =
-      both {P = λ store. IsRoot store paths edl g} {Q = λ store. store script ≡ Some text} {R = λ store. Prepares store paths edl script (Ok m)} files.contents
-      (λ store r t. machine g text m.interface m.script r t h.taken h.script) root.told found
-
-  -- the same of a result, where the script was read after the EDL file
+  -- the answer, where the script was read after the EDL file
   pub prepared : (items text : List ℕ) (result : Result Machine PrepareFault) (before middle : FilesState) → AreOnlyRead before middle → text ≡ items
-      → GivesRoot before paths edl g → Holds middle script (Some items) → IfOk result (λ m. IsMachineOf g text m)
-      → IfOk result (λ m. FilesGive before paths edl script (Ok m))
+      → GivesRoot before paths edl g → Holds middle script (Some items) → IfOk result (IsMachineOf racing g text)
+      → IfOk result (λ m. FilesGive racing before paths edl script (Ok m))
   prepared items text (Ok m) before middle kept same root found h =
-      machine_given text m before root (found_before items text before middle kept same found) h
+      answered text before (Ok m) root (found_before items text before middle kept same found) (λ store r t. machine g text m r t h)
   prepared items text (Err e) before middle kept same root found h = tt
 
   pub unprepared : (items text : List ℕ) (result : Result Machine PrepareFault) (before middle after : FilesState) → AreOnlyRead before middle → text ≡ items
-      → GivesRoot before paths edl g → Holds middle script (Some items) → IfErr result (OrMemory Memory (IsMachineFault g text))
-      → IfErr result (OrMemory Memory (IsUnprepared paths edl script before after))
+      → GivesRoot before paths edl g → Holds middle script (Some items) → IfErr result (OrMemory Memory (IsMachineFault racing g text))
+      → IfErr result (OrMemory Memory (IsUnprepared racing paths edl script before after))
   unprepared items text (Ok m) before middle after kept same root found h = tt
   unprepared items text (Err e) before middle after kept same root found h =
       or_memory (none_given text before after e root (found_before items text before middle kept same found)) h

@@ -1,4 +1,5 @@
 pub mod Interfaces
+pub mod Plain
 pub mod Prepared
 pub mod Taken
 pub mod Told

@@ -2,15 +2,13 @@
 
 ghost use Rattle.std.specs.Prelude.{◌≡◌};
 ghost use Rattle.sgx_base.specs.Outcome.{OrMemory};
-ghost use Rattle.edl_imports.specs.Gathering.{name_at as file_name};
-ghost use Rattle.call_engine.specs.Prepared.{IsEdlFault};
+ghost use Rattle.edl_imports.specs.Gathering.{name_at};
+ghost use Rattle.call_engine.specs.Interfaces.{not_taken as refusal};
 ghost use Rattle.call_engine.specs.Told as spec;
 
-use attr_rules::RuleFault;
-use edl_grammar::{ParseFault, SourceFile};
-use edl_imports::{ImportCause, ImportFault};
-use edl_layout::LayoutFault;
-use edl_lexer::LexFault;
+use call_script::ScriptFault;
+use edl_grammar::SourceFile;
+use edl_reader::SourceFault;
 use sgx_base::{Fault, FileFault, Name};
 use std::alloc::{AllocError, Global};
 
@@ -39,97 +37,53 @@ impl From<AllocError> for PrepareFault {
     }
 }
 
-fn of_lexer(fault: LexFault) -> RuleFault
-    ensures { result ≡ spec.of_lexer fault }
+/// Files that the runner does not take are refused at the first byte of the root.
+const NOT_TAKEN: Fault = Fault {
+    file: 0,
+    line: 1,
+    column: 1,
+    code: 38,
+};
+
+pub(crate) fn of_source(fault: SourceFault) -> PrepareFault
+    ensures { result ≡ spec.of_source fault }
 {
     match fault {
-        LexFault::BadByte(place) => RuleFault::Rule(place),
-        LexFault::OpenComment(place) => RuleFault::Rule(place),
-        LexFault::OpenText(place) => RuleFault::Rule(place),
-        LexFault::NumberTooWide(place) => RuleFault::Rule(place),
-        LexFault::TooManyTokens(place) => RuleFault::Rule(place),
-        LexFault::Memory => RuleFault::Memory,
+        SourceFault::Edl { name, fault } => PrepareFault::Edl { name, fault },
+        SourceFault::NotFound(name) => PrepareFault::NotFound(name),
+        SourceFault::ReadFault(name) => PrepareFault::ReadFault(name),
+        SourceFault::Memory => PrepareFault::Memory,
     }
 }
 
-fn of_parser(fault: ParseFault) -> RuleFault
-    ensures { result ≡ spec.of_parser fault }
+pub(crate) fn of_script(fault: ScriptFault) -> PrepareFault
+    ensures { result ≡ spec.of_script fault }
 {
     match fault {
-        ParseFault::Expected { at, .. } => RuleFault::Rule(at),
-        ParseFault::TooDeep(place) => RuleFault::Rule(place),
-        ParseFault::Memory => RuleFault::Memory,
+        ScriptFault::Rule { line, code } => PrepareFault::Script { line, code },
+        ScriptFault::Memory => PrepareFault::Memory,
     }
 }
 
-pub(crate) fn of_layouts(fault: LayoutFault) -> RuleFault
-    ensures { result ≡ spec.of_layouts fault }
+/// The name of the first file.
+fn first_name(files: &[SourceFile]) -> &[u8]
+    ensures { result.now ≡ name_at files.now 0 }
 {
-    match fault {
-        LayoutFault::Unknown(place) => RuleFault::Rule(place),
-        LayoutFault::SelfHolding(place) => RuleFault::Rule(place),
-        LayoutFault::TooLarge(place) => RuleFault::Rule(place),
-        LayoutFault::Memory => RuleFault::Memory,
-    }
-}
-
-/// A fault of the file of this name.
-fn of_file(name: Name, fault: RuleFault) -> PrepareFault
-    ensures { result ≡ spec.of_file name fault }
-{
-    match fault {
-        RuleFault::Rule(fault) => PrepareFault::Edl { name, fault },
-        RuleFault::Memory => PrepareFault::Memory,
-    }
-}
-
-/// Why files were not gathered, under this name.
-fn of_cause(name: Name, cause: ImportCause) -> PrepareFault
-    ensures { result ≡ spec.of_cause name cause }
-{
-    match cause {
-        ImportCause::NotFound => PrepareFault::NotFound(name),
-        ImportCause::Cycle(fault) => PrepareFault::Edl { name, fault },
-        ImportCause::NoSuchName(fault) => PrepareFault::Edl { name, fault },
-        ImportCause::Conflict(fault) => PrepareFault::Edl { name, fault },
-        ImportCause::TooManyFiles(fault) => PrepareFault::Edl { name, fault },
-        ImportCause::Lex(fault) => of_file(name, of_lexer(fault)),
-        ImportCause::Parse(fault) => of_file(name, of_parser(fault)),
-        ImportCause::ReadFault => PrepareFault::ReadFault(name),
-        ImportCause::Memory => PrepareFault::Memory,
-    }
-}
-
-/// Why files were not gathered.
-pub(crate) fn of_gathering(alloc: Global, fault: ImportFault) -> PrepareFault
-    ensures { OrMemory PrepareFault.Memory (λ told. told ≡ spec.of_cause fault.name fault.cause) result }
-{
-    let ImportFault { name, cause } = fault;
-    match Name::new(alloc, name.as_slice()) {
-        Ok(name) => of_cause(name, cause),
-        Err(_) => PrepareFault::Memory,
-    }
-}
-
-/// The name of the file of this number.
-fn name_at(files: &[SourceFile], number: u32) -> &[u8]
-    ensures { result.now ≡ file_name files.now number }
-{
-    match files.get(number as usize) {
+    match files.get(0) {
         Some(file) => file.name.bytes(),
         None => b"",
     }
 }
 
-/// A fault of gathered files, under the name of that in which it stands.
-pub(crate) fn of_rules(alloc: Global, files: &[SourceFile], fault: RuleFault) -> PrepareFault
-    ensures { OrMemory PrepareFault.Memory (IsEdlFault files.now (λ f. fault ≡ RuleFault.Rule f)) result }
+/// The refusal of files that the runner does not take.
+pub(crate) fn not_taken(alloc: Global, files: &[SourceFile]) -> PrepareFault
+    ensures { OrMemory PrepareFault.Memory (spec.IsEdlFault files.now (λ f. f ≡ refusal)) result }
 {
-    let RuleFault::Rule(fault) = fault else {
-        return PrepareFault::Memory;
-    };
-    match Name::new(alloc, name_at(files, fault.file)) {
-        Ok(name) => PrepareFault::Edl { name, fault },
+    match Name::new(alloc, first_name(files)) {
+        Ok(name) => PrepareFault::Edl {
+            name,
+            fault: NOT_TAKEN,
+        },
         Err(_) => PrepareFault::Memory,
     }
 }

@@ -1,26 +1,22 @@
 //! From the names of files to a machine.
 
-ghost use Rattle.std.specs.Prelude.{ℕ, List, ◌≡◌, ◌≤◌, ◌<◌, ◌^◌, length, Some, Ok, IfOk, IfErr, vec_len};
+ghost use Rattle.std.specs.Prelude.{ℕ, Bool, List, ◌≤◌, ◌<◌, ◌^◌, length, Some, Ok, IfOk, IfErr, vec_len};
 ghost use Rattle.sgx_base.specs.Outcome.{OrMemory};
 ghost use Rattle.sgx_base.specs.Stores.{AreOnlyRead, Holds, max_file_size};
-ghost use Rattle.call_script.specs.PlainScript.{IsPlainScript};
-ghost use Rattle.script_form.specs.Form.{script_form};
 ghost use Rattle.edl_interface.specs.Sound.{IsSound};
+ghost use Rattle.edl_reader.specs.Sources.{AreParsed, GivesRoot};
 ghost use Rattle.call_machine.specs.Plain.{IsPlainInterface, IsPlainMachine};
 ghost use Rattle.call_machine.specs.Sound.{IsSoundMachine};
-ghost use Rattle.attr_rules.specs.ForRun.{AreForRun};
-ghost use Rattle.call_engine.specs.Interfaces.{IsTaken, IsRefused, no_foreign};
-ghost use Rattle.call_engine.specs.Prepared.{FilesGive, GivesRoot, IsUnprepared, IsUnread, IsEdlFault};
-ghost use Rattle.call_engine.specs.Prepared.{IsMachineOf, IsMachineFault, IsScriptFault};
+ghost use Rattle.call_engine.specs.Prepared.{FilesGive, IsUnprepared, IsUnread};
+ghost use Rattle.call_engine.specs.Prepared.{IsInterface, IsMachineOf, IsMachineFault};
 
 use crate::Machine;
-use crate::faults::{PrepareFault, not_found, not_read, of_gathering, of_rules};
+use crate::faults::{PrepareFault, not_found, not_read, of_source};
 use crate::interfaces::taken_interface;
-use call_script::{Script, ScriptFault};
+use crate::scripts::{foreign_of, script_of};
 use edl_grammar::Gathered;
-use edl_imports::gather;
 use edl_interface::Interface;
-use script_form::read_script;
+use edl_reader::read_edl;
 use sgx_base::{Files, Word};
 use std::alloc::Global;
 
@@ -39,7 +35,7 @@ fn read_file<F: Files>(alloc: Global, files: &mut F, name: &str) -> Result<Vec<u
 }
 
 /// The EDL file of this name, and all that it imports by this search path.
-fn read_edl<F: Files>(
+fn read_root<F: Files>(
     alloc: Global,
     files: &mut F,
     paths: &[Word],
@@ -47,79 +43,72 @@ fn read_edl<F: Files>(
 ) -> Result<Gathered, PrepareFault>
     ensures ok { IfOk result (GivesRoot (F.state files.old) paths.now edl.now) }
     ensures few { IfOk result (λ g. length g.files < 2 ^ 32) }
-    ensures for_run { IfOk result (λ g. AreForRun g no_foreign) }
-    ensures err { (script : List ℕ) → IfErr result (OrMemory PrepareFault.Memory
-        (IsUnprepared paths.now edl.now script (F.state files.old) (F.state files.new))) }
+    ensures parsed { IfOk result AreParsed }
+    ensures err { (racing : Bool) (script : List ℕ) → IfErr result (OrMemory PrepareFault.Memory
+        (IsUnprepared racing paths.now edl.now script (F.state files.old) (F.state files.new))) }
     ensures kept { AreOnlyRead (F.state files.old) (F.state files.new) }
 {
-    match gather(alloc, files, edl, paths) {
+    match read_edl(alloc, files, paths, edl) {
         Ok(gathered) => Ok(gathered),
-        Err(fault) => Err(of_gathering(alloc, fault)),
+        Err(fault) => Err(of_source(fault)),
     }
 }
 
-/// The interface of gathered files.
-fn interface_of(alloc: Global, gathered: &Gathered) -> Result<Interface, PrepareFault>
+/// The interface of gathered files, with the foreign types of a script's text.
+fn interface_for(alloc: Global, gathered: &Gathered, text: &[u8]) -> Result<Interface, PrepareFault>
     requires few { length gathered.now.files < 2 ^ 32 }
-    requires for_run { AreForRun gathered.now no_foreign }
-    ensures ok { IfOk result (IsTaken gathered.now) }
+    requires parsed { AreParsed gathered.now }
+    requires short { length text.now ≤ max_file_size }
+    ensures ok { IfOk result (IsInterface gathered.now text.now) }
     ensures sound { IfOk result IsSound }
     ensures plain { IfOk result IsPlainInterface }
-    ensures err { IfErr result
-        (OrMemory PrepareFault.Memory (IsEdlFault gathered.now.files (IsRefused gathered.now))) }
+    ensures err { (racing : Bool) → IfErr result
+        (OrMemory PrepareFault.Memory (IsMachineFault racing gathered.now text.now)) }
 {
-    match taken_interface(alloc, gathered) {
-        Ok(interface) => Ok(interface),
-        Err(fault) => Err(of_rules(alloc, gathered.files.as_slice(), fault)),
-    }
-}
-
-fn script_of(alloc: Global, interface: &Interface, text: &[u8]) -> Result<Script, PrepareFault>
-    requires sound { IsSound interface.now }
-    requires short { length text.now ≤ max_file_size }
-    ensures ok { IfOk result (λ s. script_form interface.now text.now ≡ Ok s) }
-    ensures plain { IfOk result (λ s. IsPlainScript interface.now s) }
-    ensures err { IfErr result (OrMemory PrepareFault.Memory (IsScriptFault interface.now text.now)) }
-{
-    match read_script(alloc, text, interface) {
-        Ok(script) => Ok(script),
-        Err(ScriptFault::Rule { line, code }) => Err(PrepareFault::Script { line, code }),
-        Err(ScriptFault::Memory) => Err(PrepareFault::Memory),
-    }
+    let foreign = foreign_of(alloc, text)?;
+    taken_interface(alloc, gathered, &foreign)
 }
 
 /// The machine of gathered files and of a script's text.
-fn machine_of(alloc: Global, gathered: &Gathered, text: &[u8]) -> Result<Machine, PrepareFault>
+fn machine_of(
+    alloc: Global,
+    gathered: &Gathered,
+    text: &[u8],
+    racing: bool,
+) -> Result<Machine, PrepareFault>
     requires few { length gathered.now.files < 2 ^ 32 }
-    requires for_run { AreForRun gathered.now no_foreign }
+    requires parsed { AreParsed gathered.now }
     requires short { length text.now ≤ max_file_size }
-    ensures ok { IfOk result (λ m. IsMachineOf gathered.now text.now m) }
-    ensures plain { IfOk result (λ m. IsPlainMachine m) }
-    ensures err { IfErr result (OrMemory PrepareFault.Memory (IsMachineFault gathered.now text.now)) }
+    ensures ok { IfOk result (IsMachineOf racing gathered.now text.now) }
+    ensures plain { IfOk result IsPlainMachine }
+    ensures err { IfErr result
+        (OrMemory PrepareFault.Memory (IsMachineFault racing gathered.now text.now)) }
 {
-    let interface = interface_of(alloc, gathered)?;
-    let script = script_of(alloc, &interface, text)?;
+    let interface = interface_for(alloc, gathered, text)?;
+    let script = script_of(alloc, &interface, text, racing)?;
     Ok(Machine { interface, script })
 }
 
-/// The machine of an EDL file and a script. Files are read whole. The EDL file and all that it imports are gathered
-/// before the script is looked for; an imported file is looked for in the directories of the search path too.
+/// The machine of an EDL file and a script, for the program with threads where `racing` is true. Files are read whole.
+/// The EDL file and all that it imports are gathered before the script is looked for, and the script's foreign types
+/// are read before layouts and rules are looked at, its other lines behind them; an imported file is looked for in the
+/// directories of the search path too. A script that the engine does not run is refused at line 0.
 pub fn prepare<F: Files>(
     alloc: Global,
     files: &mut F,
     paths: &[Word],
     edl: &str,
     script: &str,
-    _racing: bool,
+    racing: bool,
 ) -> Result<Machine, PrepareFault>
-    ensures plain { IfOk result (λ m. IsPlainMachine m) }
-    ensures sound { IfOk result (λ m. IsSoundMachine m) }
-    ensures ok { IfOk result (λ m. FilesGive (F.state files.old) paths.now edl.now script.now (Ok m)) }
+    ensures plain { IfOk result IsPlainMachine }
+    ensures sound { IfOk result IsSoundMachine }
+    ensures ok { IfOk result (λ m. FilesGive racing (F.state files.old) paths.now edl.now script.now (Ok m)) }
     ensures err { IfErr result (OrMemory PrepareFault.Memory
-        (IsUnprepared paths.now edl.now script.now (F.state files.old) (F.state files.new))) }
+        (IsUnprepared racing paths.now edl.now script.now (F.state files.old) (F.state files.new))) }
     ensures kept { AreOnlyRead (F.state files.old) (F.state files.new) }
 {
-    let gathered = read_edl(alloc, files, paths, edl)?;
+    let gathered = read_root(alloc, files, paths, edl)?;
     let text = read_file(alloc, files, script)?;
-    machine_of(alloc, &gathered, &text)
+    machine_of(alloc, &gathered, &text, racing)
 }

@@ -46,12 +46,12 @@ answered words before after old new ending text (Err Memory) status result e t s
 -- ---- where nothing fails
 
 module _ (words : List (List ℕ)) (before after : FilesState) (r : IsRunnable words before) where
-  decided : (answer : Result Machine PrepareFault) → FilesGive before r.names.paths r.names.edl r.names.script answer
-      → Prepares r.store r.names.paths r.names.edl r.names.script answer
-  decided answer gives = subst (λ (contents : Option Store). IfSome contents (λ s. Prepares s r.names.paths r.names.edl r.names.script answer)) r.told gives
+  decided : (answer : Result Machine PrepareFault) → FilesGive false before r.names.paths r.names.edl r.names.script answer
+      → Prepares false r.store r.names.paths r.names.edl r.names.script answer
+  decided answer gives = subst (λ (contents : Option Store). IfSome contents (λ s. Prepares false s r.names.paths r.names.edl r.names.script answer)) r.told gives
 
   -- the files have no such fault
-  no_fault : (fault : PrepareFault) → FilesGive before r.names.paths r.names.edl r.names.script (Err fault) → ⊥
+  no_fault : (fault : PrepareFault) → FilesGive false before r.names.paths r.names.edl r.names.script (Err fault) → ⊥
   no_fault fault gives = r.faultless fault (decided (Err fault) gives)
 
   -- by the files of the names

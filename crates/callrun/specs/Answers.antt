@@ -1,5 +1,5 @@
 -- What the statuses of the program mean.
-use Rattle.std.specs.Prelude.{ℕ, ◌≡◌, ◌⊎◌, List, Some, Ok, Err}
+use Rattle.std.specs.Prelude.{ℕ, ◌≡◌, ◌⊎◌, false, List, Some, Ok, Err}
 use Rattle.sgx_base.specs.Lines.{edl_line, script_line, unread_line, missing_line}
 use Rattle.sgx_base.specs.Sinks.{SinkState, SinkFailed, Wrote, WrotePart}
 use Rattle.sgx_base.specs.Stores.{Store, FilesState, ReadFailed}
@@ -43,8 +43,8 @@ pub record IsRunnable (words : List (List ℕ)) (files : FilesState) : Type 0 wh
   pub named : names_of words ≡ Some names
   pub store : Store
   pub told : files.contents ≡ Some store
-  pub faultless : (fault : PrepareFault) → ¬ Prepares store names.paths names.edl names.script (Err fault)
-  pub uncut : (m : Machine) (limit : RunFull) → Prepares store names.paths names.edl names.script (Ok m)
+  pub faultless : (fault : PrepareFault) → ¬ Prepares false store names.paths names.edl names.script (Err fault)
+  pub uncut : (m : Machine) (limit : RunFull) → Prepares false store names.paths names.edl names.script (Ok m)
       → ¬ IsCutBy m limit
 
 -- no read failed, and the sink took what was written

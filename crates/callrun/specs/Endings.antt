@@ -1,5 +1,5 @@
 -- How a call of the program ends, why, and what it writes then.
-use Rattle.std.specs.Prelude.{ℕ, ◌≡◌, Bool, ◌||◌, ◌==◌, if◌then◌else◌, List, [], ◌∷◌, codes, nat_eq}
+use Rattle.std.specs.Prelude.{ℕ, ◌≡◌, Bool, false, ◌||◌, ◌==◌, if◌then◌else◌, List, [], ◌∷◌, codes, nat_eq}
 use Rattle.std.specs.Prelude.{Option, Some, None, Ok}
 use Rattle.std.specs.List.{starts_with, slice_split}
 use Rattle.std.specs.Str.{bytes_eq}
@@ -47,24 +47,24 @@ names_of words = None
 -- the files of these names give a machine, and the text is the report of its one run, which is protected
 pub record IsReport (files : FilesState) (n : Names) (text : List ℕ) : Type 0 where
   pub machine : Machine
-  pub gives : FilesGive files n.paths n.edl n.script (Ok machine)
+  pub gives : FilesGive false files n.paths n.edl n.script (Ok machine)
   pub report : IsReportOf machine text
   pub protected : IsProtectedReport machine text
 
 -- the files of these names give a machine, and the limit cuts its run
 pub record IsCut (files : FilesState) (n : Names) (limit : RunFull) : Type 0 where
   pub machine : Machine
-  pub gives : FilesGive files n.paths n.edl n.script (Ok machine)
+  pub gives : FilesGive false files n.paths n.edl n.script (Ok machine)
   pub cut : IsCutBy machine limit
 
 -- why a call with these names ends so, where the files were so before and are so after
 abbrev pub HasCause : Names → FilesState → FilesState → Ending → Type 0
 HasCause n before after Usage = ⊥
-HasCause n before after (Edl name fault) = IsUnprepared n.paths n.edl n.script before after (cause.Edl name fault)
+HasCause n before after (Edl name fault) = IsUnprepared false n.paths n.edl n.script before after (cause.Edl name fault)
 HasCause n before after (Script name line code) =
-    (name ≡ n.script) × IsUnprepared n.paths n.edl n.script before after (cause.Script line code)
-HasCause n before after (Unread name) = IsUnprepared n.paths n.edl n.script before after (cause.ReadFault name)
-HasCause n before after (Missing name) = IsUnprepared n.paths n.edl n.script before after (cause.NotFound name)
+    (name ≡ n.script) × IsUnprepared false n.paths n.edl n.script before after (cause.Script line code)
+HasCause n before after (Unread name) = IsUnprepared false n.paths n.edl n.script before after (cause.ReadFault name)
+HasCause n before after (Missing name) = IsUnprepared false n.paths n.edl n.script before after (cause.NotFound name)
 HasCause n before after (Reported text) = IsReport before n text
 HasCause n before after (Cut limit) = IsCut before n limit
 

@@ -1,7 +1,7 @@
 //! The top call of the runner: from words and files to one text and a status.
 #![tactic(auto)]
 
-ghost use Rattle.std.specs.Prelude.{ℕ, List, ◌≡◌, IfOk, OnOk};
+ghost use Rattle.std.specs.Prelude.{ℕ, List, false, ◌≡◌, IfOk, OnOk};
 ghost use Rattle.sgx_base.specs.Outcome.{OrMemory};
 ghost use Rattle.sgx_base.specs.Stores.{FilesState, AreOnlyRead};
 ghost use Rattle.call_engine.specs.Prepared.{IsUnprepared};
@@ -85,7 +85,7 @@ fn text_of(alloc: Global, ending: &Ending) -> Result<Vec<u8>, AllocError>
 /// The ending where there is no machine.
 fn ending_of(alloc: Global, script: &str, fault: PrepareFault) -> Result<Ending, AllocError>
     ensures { (paths : List (List ℕ)) (edl : List ℕ) (before after : FilesState)
-        → OrMemory PrepareFault.Memory (IsUnprepared paths edl script.now before after) fault
+        → OrMemory PrepareFault.Memory (IsUnprepared false paths edl script.now before after) fault
         → IfOk result (HasCause (record { paths = paths; edl = edl; script = script.now }) before after) }
 {
     match fault {

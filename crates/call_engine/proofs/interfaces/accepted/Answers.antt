@@ -1,13 +1,12 @@
-use Rattle.std.proofs.Common.{refl}
-use Rattle.call_engine.specs.Interfaces.{no_foreign}
-use Rattle.call_engine.proofs.InterfaceLaws.{told_by_rules, given_by_rules}
+use Rattle.std.proofs.Common.{true, refl}
+use Rattle.edl_reader.specs.Accepted.{IsRefused}
+use Rattle.call_engine.proofs.CauseLaws.{edl_told}
 use Rattle.call_engine.proofs.interfaces.accepted.Goals as goal
 
-pub returns-clause-ok : goal.returns-clause-ok
-returns-clause-ok c = given_by_rules c.args.gathered.now c.args.layouts.now c.check.result c.check.ensures.exact
+pub returns-in-Err-clause-err : goal.returns-in-Err-clause-err
+returns-in-Err-clause-err c =
+    rw c.of_source.ensures
+    (edl_told c.args.gathered.now.files (IsRefused c.args.gathered.now c.args.foreign.now true) c.in-Err.fault c.in-Err.ensures.err)
 
-pub returns-clause-err : goal.returns-clause-err
-returns-clause-err c = told_by_rules c.args.gathered.now c.args.layouts.now c.check.result c.requires.laid_out c.check.ensures.exact
-
-pub returns-clause-runnable : goal.returns-clause-runnable
-returns-clause-runnable c = c.check.ensures.runnable no_foreign c.requires.laid_out.layouts c.requires.laid_out.is_table c.requires.for_run refl
+pub returns-in-Ok-clause-runnable : goal.returns-in-Ok-clause-runnable
+returns-in-Ok-clause-runnable c = c.in-Ok.ensures.runnable c.requires.for_run refl

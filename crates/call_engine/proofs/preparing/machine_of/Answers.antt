@@ -1,8 +1,12 @@
 use Rattle.std.proofs.Common.{rules}
-use Rattle.call_engine.proofs.CauseLaws.{machine_refused}
+use Rattle.call_engine.proofs.CauseLaws.{no_plain_script}
 use Rattle.call_engine.proofs.preparing.machine_of.Goals as goal
 
 pub returns-in_err-interface-clause-err : goal.returns-in_err-interface-clause-err
-returns-in_err-interface-clause-err c =
-    let h = machine_refused c.args.gathered.now c.args.text.now c.in_err-interface.field-0.0 c.in_err-interface.ensures.err in
+returns-in_err-interface-clause-err c = let h = c.in_err-interface.ensures.err c.args.racing in search rules
+
+pub returns-in_err-script-clause-err : goal.returns-in_err-script-clause-err
+returns-in_err-script-clause-err c =
+    let h = no_plain_script c.args.racing c.args.gathered.now c.args.text.now c.in_ok-interface.interface c.in_ok-interface.ensures.ok
+    c.in_err-script.field-0.0 c.in_err-script.ensures.err in
     search rules
