@@ -14,7 +14,8 @@ use Rattle.call_engine.specs.declared.faults.PrepareFault.TheVariants.{Edl as of
 use Rattle.call_engine.specs.Prepared.{FilesGive, Prepares}
 use Rattle.callrun.specs.declared.Ending.{Ending}
 use Rattle.callrun.specs.declared.Ending.TheVariants.{Usage, Edl, Script, Unread, Missing, Reported, Cut}
-use Rattle.callrun.specs.Endings.{Names, named, directories, names_of, HasCause, EndsBy, Ends, status_of, text_of}
+use Rattle.edl_reader.specs.Paths.{directories}
+use Rattle.callrun.specs.Endings.{Names, named, names_of, HasCause, EndsBy, Ends, status_of, text_of}
 use Rattle.callrun.specs.Answers.{Answers, reported, usage, edl_fault, script_fault, unread, refused, out_of_memory, missing, full, IsRunnable, NothingFailed}
 
 -- ---- the answer where an ending's text was written, or a part of it

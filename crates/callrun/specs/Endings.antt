@@ -1,7 +1,7 @@
 -- How a call of the program ends, why, and what it writes then.
-use Rattle.std.specs.Prelude.{ℕ, ◌≡◌, Bool, false, ◌||◌, ◌==◌, if◌then◌else◌, List, [], ◌∷◌, codes, nat_eq}
+use Rattle.std.specs.Prelude.{ℕ, ◌≡◌, Bool, false, ◌||◌, if◌then◌else◌, List, [], ◌∷◌, codes, nat_eq}
 use Rattle.std.specs.Prelude.{Option, Some, None, Ok}
-use Rattle.std.specs.List.{starts_with, slice_split}
+use Rattle.std.specs.List.{starts_with}
 use Rattle.std.specs.Str.{bytes_eq}
 use Rattle.sgx_base.specs.Lines.{edl_line, script_line, unread_line, missing_line}
 use Rattle.sgx_base.specs.Stores.{FilesState}
@@ -10,6 +10,7 @@ use Rattle.call_machine.specs.declared.Machine.{Machine}
 use Rattle.call_machine.specs.Reported.{IsReportOf, IsCutBy}
 use Rattle.call_engine.specs.declared.faults.PrepareFault.TheVariants as cause
 use Rattle.call_engine.specs.Prepared.{FilesGive, IsUnprepared}
+use Rattle.edl_reader.specs.Paths.{directories}
 use Rattle.run_laws.specs.Reports.{IsProtectedReport}
 use Rattle.callrun.specs.declared.Ending.{Ending}
 use Rattle.callrun.specs.declared.Ending.TheVariants.{Usage, Edl, Script, Unread, Missing, Reported, Cut}
@@ -25,10 +26,6 @@ pub record Names : Type 0 where
 -- whether a word is an option
 abbrev pub is_option : List ℕ → Bool
 is_option word = starts_with nat_eq word (codes "--")
-
--- the directories of a search path, which colons part
-abbrev pub directories : List ℕ → List (List ℕ)
-directories path = slice_split (λ b. b == 58) path
 
 -- a file's name is no option
 abbrev pub named : List (List ℕ) → List ℕ → List ℕ → Option Names

@@ -10,6 +10,7 @@ ghost use Rattle.callrun.specs.Endings.{Names, HasCause, EndsBy, Ends};
 ghost use Rattle.callrun.specs.Answers.{Answers, IsRunnable, NothingFailed};
 
 use call_engine::{PrepareFault, RunFault, prepare, run_machine};
+use edl_reader::directories_of;
 use sgx_base::{
     Fault, Files, Name, Sink, SinkFault, Word, edl_line, missing_line, script_line, unread_line,
     write_text,
@@ -141,17 +142,6 @@ fn run_named<F: Files>(
         return Ok(Ending::Usage);
     }
     run_files(alloc, files, paths, edl.text(), script.text())
-}
-
-/// The directories of a search path, which colons part.
-fn directories_of(alloc: Global, path: &str) -> Result<Items<Word>, AllocError>
-    ensures { IfOk result (λ paths. paths ≡ spec.directories path.now) }
-{
-    let mut directories = Items::new(alloc);
-    for directory in path.split(':') {
-        directories.push(Word::new(alloc, directory)?)?;
-    }
-    Ok(directories)
 }
 
 fn run_words<F: Files>(alloc: Global, words: &[Word], files: &mut F) -> Result<Ending, AllocError>
