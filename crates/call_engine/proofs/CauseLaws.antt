@@ -1,5 +1,5 @@
 -- How the causes at which the preparing ends are told.
-use Rattle.std.proofs.Common.{ℕ, ◌≡◌, ◌⊎◌, inl, inr, Bool, true, false, List, Option, Some, None, IfSome, IfOk, IfErr, Result, Ok, Err, refl, sym, ap, ◌∙◌, subst, arith, ◌≤◌}
+use Rattle.std.proofs.Common.{ℕ, ◌≡◌, ◌⊎◌, inl, inr, Bool, true, false, List, Option, Some, None, IfSome, IfOk, IfErr, Result, Ok, Err, sym, ap, subst, arith, ◌≤◌}
 use Rattle.sgx_base.specs.Counts.{Rose}
 use Rattle.sgx_base.specs.Outcome.{OrMemory}
 use Rattle.sgx_base.specs.Stores.{Store, FilesState, Holds, AreOnlyRead}
@@ -16,7 +16,6 @@ use Rattle.edl_reader.specs.Accepted.{IsAccepted, IsRefused}
 use Rattle.edl_reader.specs.Sources.{IsRoot, IsNoRoot, GivesRoot, GivesNoRoot, AreParsed, IsUngathered}
 use Rattle.edl_reader.specs.Sources as sources
 use Rattle.script_reader.specs.Foreign.{foreign_types}
-use Rattle.call_script.specs.declared.Script.{Script}
 use Rattle.call_machine.specs.declared.Machine.{Machine}
 use Rattle.call_engine.specs.declared.faults.PrepareFault.{PrepareFault}
 use Rattle.call_engine.specs.declared.faults.PrepareFault.TheVariants.{Edl, Script as of_line, NotFound, ReadFault, Memory}
@@ -24,7 +23,7 @@ use Rattle.call_engine.specs.Told.{of_source, IsEdlFault, IsFaultOf}
 use Rattle.call_engine.specs.Interfaces.{AreKnown, IsTaken, IsUntaken, broken, other, not_taken}
 use Rattle.call_engine.specs.Taken.{is_taken}
 use Rattle.call_engine.specs.Plain.{plain_script}
-use Rattle.call_engine.specs.Prepared.{Prepares, ungathered, no_script, untaken, faulty, machine, IsInterface, HasNoInterface, HasNoScript, in_types, in_script, IsMachineOf, IsMachineFault, FilesGive, IsUnprepared, IsUnread}
+use Rattle.call_engine.specs.Prepared.{Prepares, ungathered, no_script, untaken, faulty, machine, IsInterface, in_types, in_script, IsMachineOf, IsMachineFault, FilesGive, IsUnprepared, IsUnread}
 
 -- where the contents are told, one fact follows from two others
 both : {P Q R : Store → Type 0} (contents : Option Store) → ((store : Store) → P store → Q store → R store) → IfSome contents P → IfSome contents Q → IfSome contents R

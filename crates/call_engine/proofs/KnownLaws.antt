@@ -1,9 +1,9 @@
 -- The foreign types that a script declares are of known size, each with an alignment.
-use Rattle.std.proofs.Common.{arith, ℕ, zero, suc, ◌≡◌, ◌<◌, ◌⊎◌, inl, inr, Bool, true, false, List, [], ◌∷◌, ◌++◌, All, Result, Ok, Err, Option, Some, None, refl, sym, ◌∙◌, ap, subst}
-use Rattle.std.specs.Prelude.{◌||◌, ◌==◌, not, nat_eq, if◌then◌else◌, codes}
+use Rattle.std.proofs.Common.{arith, ℕ, zero, suc, ◌≡◌, ◌<◌, Bool, true, false, List, [], ◌∷◌, ◌++◌, All, Result, Ok, Err, Option, Some, refl, sym, ◌∙◌, subst}
+use Rattle.std.specs.Prelude.{not, nat_eq, if◌then◌else◌, codes}
 use Rattle.std.specs.List.{list_any}
 use Rattle.std.specs.Str.{bytes_eq}
-use Rattle.std.proofs.lemmas.Bool.{or_parts, eqb-true}
+use Rattle.std.proofs.lemmas.Bool.{or_parts}
 use Rattle.std.proofs.lemmas.List.Elements.{All-append, All-cons, All-nil}
 use Rattle.edl_layout.specs.declared.ForeignType.{ForeignType}
 use Rattle.edl_layout.specs.declared.ForeignTypes.{ForeignTypes}

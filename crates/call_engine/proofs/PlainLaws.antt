@@ -1,7 +1,7 @@
 -- A sound script of calls with plain bodies is one that the engine runs.
 use Rattle.std.proofs.Common.{arith, lit<, ℕ, ◌≡◌, ◌⊎◌, ◌+◌, ◌<◌, inl, inr, true, List, [], ◌∷◌, length, All, refl, ap, subst}
 use Rattle.std.specs.Prelude.{Bool, ◌&&◌, ◌==◌, filter}
-use Rattle.std.specs.List.{AllZip, AllByRecursion, list_all}
+use Rattle.std.specs.List.{AllZip, list_all}
 use Rattle.std.proofs.lemmas.List.Elements.{All-cons, All-nil}
 use Rattle.std.proofs.lemmas.Bool.{and_parts, eqb-true}
 use Rattle.edl_interface.specs.declared.Class.{Class}
@@ -19,7 +19,7 @@ use Rattle.call_script.specs.declared.CallArg.TheVariants.{At, Null, Number, Byt
 use Rattle.call_script.specs.declared.Place.TheVariants.{At as at_address, InFrame}
 use Rattle.call_script.specs.declared.HostAct.{HostAct, Call}
 use Rattle.call_script.specs.declared.Script.{Script}
-use Rattle.call_script.specs.PlainScript.{sum_actions, IsPlainBody, ArePlainBodies, IsArgument, IsPointerArgument, AreArguments, IsPlainCall, IsPlainScript}
+use Rattle.call_script.specs.PlainScript.{sum_actions, ArePlainBodies, IsArgument, IsPointerArgument, AreArguments, IsPlainCall, IsPlainScript}
 use Rattle.call_script.specs.Faults.{max_nesting}
 use Rattle.call_script.specs.Sound.{IsSoundBody, AreSoundActions, is_temporary_action, OfThread, IsSoundPointer, IsSoundArgument, IsSoundAct, AreSoundActs, IsSoundScript}
 use Rattle.script_laws.proofs.EngineLaws.{port-words}

@@ -1,5 +1,5 @@
 -- What the readings of a script give, and how their faults are told.
-use Rattle.std.proofs.Common.{ℕ, ◌≡◌, inl, inr, true, false, Result, Ok, Err, refl, ap, ◌∙◌}
+use Rattle.std.proofs.Common.{◌≡◌, inl, inr, true, false, Result, Ok, Err, refl, ap, ◌∙◌}
 use Rattle.std.specs.Prelude.{Bool, if◌then◌else◌}
 use Rattle.sgx_base.specs.Outcome.{OrMemory}
 use Rattle.call_script.specs.declared.Script.{Script}

@@ -1,5 +1,5 @@
 -- The interface that the runner takes of gathered files, or their first fault.
-use Rattle.std.specs.Prelude.{ℕ, ◌≡◌, ◌<◌, true, false, All}
+use Rattle.std.specs.Prelude.{◌≡◌, ◌<◌, true, false, All}
 use Rattle.sgx_base.specs.declared.Fault.{Fault}
 use Rattle.edl_grammar.specs.declared.Gathered.{Gathered}
 use Rattle.edl_layout.specs.declared.ForeignTypes.{ForeignTypes}

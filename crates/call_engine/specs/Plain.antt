@@ -1,5 +1,5 @@
 -- Which scripts the engine runs so far: calls by one thread, of functions whose bodies give the sum of a block's bytes, or nothing.
-use Rattle.std.specs.Prelude.{ℕ, ◌≡◌, Bool, true, false, ◌&&◌, ◌==◌, if◌then◌else◌, List, [], ◌∷◌, length, Result, Ok, Err}
+use Rattle.std.specs.Prelude.{ℕ, Bool, true, false, ◌&&◌, ◌==◌, if◌then◌else◌, List, [], ◌∷◌, length, Result, Ok, Err}
 use Rattle.std.specs.List.{list_all}
 use Rattle.body_vm.specs.declared.Action.{Action}
 use Rattle.body_vm.specs.declared.Action.TheVariants.{Sum, Return}

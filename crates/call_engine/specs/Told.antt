@@ -1,5 +1,5 @@
 -- How the faults of files and of scripts are told.
-use Rattle.std.specs.Prelude.{ℕ, ◌≡◌, List, Result, Err}
+use Rattle.std.specs.Prelude.{◌≡◌, List, Result, Err}
 use Rattle.sgx_base.specs.declared.Fault.{Fault}
 use Rattle.edl_grammar.specs.declared.SourceFile.{SourceFile}
 use Rattle.edl_imports.specs.Gathering.{name_at}

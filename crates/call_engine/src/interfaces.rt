@@ -1,6 +1,6 @@
 //! The interface that the runner takes of gathered files, or their first fault.
 
-ghost use Rattle.std.specs.Prelude.{◌≡◌, ◌<◌, ◌^◌, true, length, IfOk, IfErr};
+ghost use Rattle.std.specs.Prelude.{◌<◌, ◌^◌, true, length, IfOk, IfErr};
 ghost use Rattle.sgx_base.specs.Outcome.{OrMemory};
 ghost use Rattle.attr_rules.specs.ForRun.{AreForRun};
 ghost use Rattle.edl_interface.specs.Sound.{IsSound};
