@@ -8,9 +8,9 @@ use Rattle.call_script.specs.Line.{Line}
 use Rattle.call_script.specs.Block.{Block, PlacedLine, placed_from, placed_lines, home}
 use Rattle.script_lines.specs.declared.places.PlacedLines.{PlacedLines}
 use Rattle.script_lines.specs.Nesting.{open_blocks, innermost}
-use Rattle.script_lines.specs.Places.{IsTaken}
+use Rattle.script_lines.specs.Places.{IsTaken, placed_left}
 use Rattle.script_blocks.specs.declared.lines.BlockLine.{BlockLine}
-use Rattle.script_blocks.specs.Blocks.{HomeLine, home_line, AreInPlace, kept_by, block_lines, in_block, inside, placed_left}
+use Rattle.script_blocks.specs.Blocks.{HomeLine, home_line, AreInPlace, kept_by, block_lines, in_block, inside}
 
 -- ---- all lines
 

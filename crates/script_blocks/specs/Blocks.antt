@@ -1,11 +1,9 @@
 -- The lines of a script that open a block or are done in one, and those of one block.
 use Rattle.std.specs.Prelude.{ℕ, ◌≡◌, Bool, ◌||◌, ◌==◌, if◌then◌else◌, nat_lt, List, [], ◌∷◌, filter, filter_map, Option, Some, None}
 use Rattle.call_script.specs.Line.{Line}
-use Rattle.call_script.specs.Block.{PlacedLine, placed_from, opens, home}
+use Rattle.call_script.specs.Block.{PlacedLine, opens, home}
 use Rattle.call_script.specs.Standing.{is_act, is_action}
 use Rattle.script_lines.specs.Lines.{line_of}
-use Rattle.script_lines.specs.Nesting.{open_blocks}
-use Rattle.script_lines.specs.declared.places.PlacedLines.{PlacedLines}
 use Rattle.script_blocks.specs.declared.lines.BlockLine.{BlockLine}
 
 -- a line, and the number of the line that opens the innermost block around it, 0 where it is in none
@@ -49,9 +47,3 @@ inside n (l ∷ ls) = if nat_lt l.home n then [] else (if l.home == n then l ∷
 unfoldable pub AreInPlace : List HomeLine → List HomeLine → Type 0
 AreInPlace all [] = Unit {0}
 AreInPlace all (l ∷ ls) = (in_block l.number all ≡ inside l.number ls) × AreInPlace all ls
-
--- ---- a script that is read
-
--- what is left of a script
-abbrev pub placed_left : PlacedLines → List PlacedLine
-placed_left p = placed_from (open_blocks p.blocks) p.lines

@@ -9,7 +9,8 @@ use Rattle.std.proofs.Math.Nat.{mul-le-mul_right, le-mul_of_pos_right, min-eq_le
 use Rattle.call_script.specs.Block as block
 use Rattle.call_script.specs.Standing.{is_repeat, times_of}
 use Rattle.script_lines.specs.declared.blocks.Block.{Block}
-use Rattle.script_lines.specs.Nesting.{opening_of, block_of, blocks_of, innermost}
+use Rattle.script_lines.specs.Openings.{opening_of, block_of, blocks_of}
+use Rattle.script_lines.specs.Nesting.{innermost}
 
 blocks_of-front : (b : Block) (bs : List Block) → blocks_of (b ∷ bs) ≡ blocks_of bs ++ block_of b ∷ []
 unfolding blocks_of

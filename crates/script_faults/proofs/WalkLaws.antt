@@ -183,11 +183,6 @@ module _ (i : Interface) (racing : Bool) (left : Option ℕ) (before : List Plac
 
 -- ---- the first fault of a whole script
 
-pub same-outermost : (bs : List block.Block) → nesting.outermost bs ≡ laws.outermost bs
-same-outermost [] = refl
-same-outermost (b ∷ []) = refl
-same-outermost (b ∷ c ∷ bs) = same-outermost (c ∷ bs)
-
 -- so far no line has a fault
 pub record IsReached (i : Interface) (racing : Bool) (left : Option ℕ) (bytes : List ℕ) (s : SoFar) (ls : List NumberedLine)
     : Type 0 where
@@ -209,7 +204,7 @@ module _ (i : Interface) (racing : Bool) (left : Option ℕ) (bytes : List ℕ) 
     first =
         line_fault-is i racing bytes
         ∙ ap (λ o. first_of (fault_with i racing o) (standings (placed_lines bytes)))
-        (sym (e ∙ same-outermost (block.left_open (placed_lines bytes))))
+        (sym e)
         ∙ ap (λ bs. first_of (fault_with i racing left) (standings_from [] (placed_from bs (numbered_lines bytes))))
         (sym blocks);
   }

@@ -4,7 +4,7 @@ use Rattle.edl_interface.specs.declared.Interface.{Interface}
 use Rattle.call_script.specs.Line.{Line}
 use Rattle.call_script.specs.Faults.{Row}
 use Rattle.call_script.specs.Standing.{Standing, lines_before, beside, names_at, is_action, temporary_name}
-use Rattle.script_lines.specs.declared.blocks.Blocks.{Blocks}
+use Rattle.script_lines.specs.declared.open_blocks.Blocks.{Blocks}
 use Rattle.script_lines.specs.Nesting.{open_blocks}
 use Rattle.script_faults.specs.declared.before.Before.{Before}
 use Rattle.script_faults.specs.declared.codes.BodyAround.{BodyAround}

@@ -7,7 +7,7 @@ ghost use Rattle.call_script.specs.Line as form;
 ghost use Rattle.call_script.specs.Standing as standing;
 ghost use Rattle.call_script.specs.Standing.{Standing, lines_before};
 ghost use Rattle.script_lines.specs.Lines as lines;
-ghost use Rattle.script_lines.specs.Nesting as nesting;
+ghost use Rattle.script_lines.specs.Openings as openings;
 ghost use Rattle.script_faults.specs.Room as room_spec;
 ghost use Rattle.script_faults.specs.Limits as limits;
 
@@ -61,7 +61,7 @@ fn times_of(line: &Line) -> u64
 #[tactic(auto, using(crate::proofs::LimitLaws::product_above))]
 fn is_too_often(around: &[Block], line: &Line) -> bool
     ensures { result ≡ nat_lt spec.max_repetitions
-        (limits.product (nesting.blocks_of around.now) * standing.times_of (lines.line_of line.now)) }
+        (limits.product (openings.blocks_of around.now) * standing.times_of (lines.line_of line.now)) }
 {
     repetitions(around).saturating_mul(times_of(line)) > 1_048_576
 }
@@ -87,7 +87,7 @@ fn is_beyond_body(room: BodyRoom, line: &Line) -> bool
 
 /// Whether the line is one repeat too many in these blocks.
 fn is_beyond_blocks(around: &[Block], line: &Line) -> bool
-    ensures { result ≡ limits.is_beyond_blocks (nesting.blocks_of around.now) (lines.line_of line.now) }
+    ensures { result ≡ limits.is_beyond_blocks (openings.blocks_of around.now) (lines.line_of line.now) }
 {
     (is_repeat(line) && has_most_repeats(around)) || (is_repeat(line) && is_too_often(around, line))
 }
@@ -105,7 +105,7 @@ pub fn is_one_too_many(room: Room, body: BodyRoom, around: &[Block], line: &Line
     ensures { (s : Standing) → room_spec.HasRoom (lines_before s) room
         → (standing.is_action (lines.line_of line.now) ≡ true
         → limits.HasBodyRoom (standing.beside s s.before) body)
-        → nesting.blocks_of around.now ≡ s.here.blocks
+        → openings.blocks_of around.now ≡ s.here.blocks
         → result ≡ spec.is_one_too_many s (lines.line_of line.now) }
 {
     is_beyond_script(room, line)

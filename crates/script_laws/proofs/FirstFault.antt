@@ -2,7 +2,7 @@
 -- the outermost alone.
 use Rattle.std.proofs.Common.{arith, ℕ, ◌≡◌, ◌+◌, ◌<◌, ◌≤◌, Bool, true, false, List, [], ◌∷◌, ◌++◌, Option, Some, None, refl, sym, ◌∙◌, ap, eqb-true, eq-eqb, subst}
 use Rattle.std.proofs.lemmas.Bool.{eqb-false}
-use Rattle.std.specs.Prelude.{◌==◌, ◌&&◌, ◌||◌, filter_map, slice_get, find, unwrap_or, drop, option_map}
+use Rattle.std.specs.Prelude.{◌==◌, ◌&&◌, ◌||◌, find, unwrap_or, drop, option_map}
 use Rattle.std.specs.List.{list_any, AllByRecursion}
 use Rattle.edl_interface.specs.declared.Interface.{Interface}
 use Rattle.call_script.specs.Spelling.{NumberedLine, numbered_from, numbered_lines, means_nothing, words, lines}
@@ -10,8 +10,9 @@ use Rattle.call_script.specs.Parser.{or_else}
 use Rattle.call_script.specs.Line.{Line, Close}
 use Rattle.call_script.specs.Block.{Block, PlacedLine, placed, placed_from, placed_lines, open_after, open_behind, left_open, block_at, opens}
 use Rattle.call_script.specs.Standing.{Standing, standings_from, standings}
-use Rattle.script_laws.specs.FirstFault.{first_of, Rising, Below, outermost, is_outermost, left_outermost, fault_with}
-use Rattle.call_script.specs.Faults.{Fault, rows_of, fault_at, fault_by, fault_of, is_left_open, is_unpaired, line_fault}
+use Rattle.script_lines.specs.Nesting.{outermost}
+use Rattle.script_laws.specs.FirstFault.{first_of, Rising, Below, is_outermost, left_outermost, fault_with}
+use Rattle.call_script.specs.Faults.{rows_of, fault_at, fault_by, fault_of, is_left_open, is_unpaired, line_fault}
 
 -- ---- from line to line
 

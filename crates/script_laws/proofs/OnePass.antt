@@ -10,7 +10,8 @@ use Rattle.call_script.specs.Spelling.{NumberedLine, numbered_lines, lines}
 use Rattle.call_script.specs.Block.{Block, PlacedLine, placed, placed_from, placed_lines, open_after, left_open, opens}
 use Rattle.call_script.specs.Standing.{Standing, standings, standings_from}
 use Rattle.call_script.specs.Faults.{Fault, Row, row, rows, rows_of, fault_by, fault_of, is_unpaired, line_fault}
-use Rattle.script_laws.specs.FirstFault.{first_of, fault_with, left_outermost, Rising, Below, outermost}
+use Rattle.script_lines.specs.Nesting.{outermost}
+use Rattle.script_laws.specs.FirstFault.{first_of, fault_with, left_outermost, Rising, Below}
 use Rattle.script_laws.proofs.FirstFault.{first_of-cons, line_fault-is, IsOpening, left-unpaired, or-true, numbered-Rising, Below-weaken, behind-Below, is_number_of, end_of, end-among, behind-own, outermost-is, left_open-is}
 use Rattle.script_laws.proofs.BodyLines.{other-after}
 

@@ -5,6 +5,7 @@ use Rattle.call_script.specs.Spelling.{NumberedLine}
 use Rattle.call_script.specs.Block.{Block, placed_lines, left_open}
 use Rattle.call_script.specs.Standing.{Standing}
 use Rattle.call_script.specs.Faults.{Fault, fault_by}
+use Rattle.script_lines.specs.Nesting.{outermost}
 
 abbrev pub first_of : {A B : Type 0} → (A → Option B) → List A → Option B
 first_of f xs = slice_get (filter_map f xs) 0
@@ -18,12 +19,6 @@ Rising n (l ∷ ls) = (n ≤ l.number) × Rising (l.number + 1) ls
 unfoldable pub Below : ℕ → List Block → Type 0
 Below m [] = Unit {0}
 Below m (b ∷ bs) = (b.number < m) × Below b.number bs
-
--- the number of the outermost block
-abbrev pub outermost : List Block → Option ℕ
-outermost [] = None
-outermost (b ∷ []) = Some b.number
-outermost (b ∷ c ∷ bs) = outermost (c ∷ bs)
 
 abbrev pub is_outermost : Option ℕ → ℕ → Bool
 is_outermost None n = false

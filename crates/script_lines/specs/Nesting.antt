@@ -1,30 +1,13 @@
 -- The blocks that are open, as their definition has them.
-use Rattle.std.specs.Prelude.{ℕ, List, [], ◌∷◌, map, reverse, drop, Option, Some, None}
+use Rattle.std.specs.Prelude.{ℕ, List, [], ◌∷◌, drop, Option, Some, None}
 use Rattle.call_script.specs.Line as line
 use Rattle.call_script.specs.Spelling.{NumberedLine}
 use Rattle.call_script.specs.Block as block
 use Rattle.script_words.specs.declared.words.NumberedLine.{NumberedLine as Numbered}
-use Rattle.script_lines.specs.declared.blocks.Opening.{Opening}
-use Rattle.script_lines.specs.declared.blocks.Opening.TheVariants.{Body, Handler, Thread, Racer, Repeat}
 use Rattle.script_lines.specs.declared.blocks.Nesting.{Nesting}
 use Rattle.script_lines.specs.declared.blocks.Nesting.TheVariants.{Opens, Closes, Stays}
-use Rattle.script_lines.specs.declared.blocks.Block.{Block}
-use Rattle.script_lines.specs.declared.blocks.Blocks.{Blocks}
-
--- the line that opens the block
-abbrev pub opening_of : Opening → line.Line
-opening_of (Body name) = line.Body name.now
-opening_of (Handler name) = line.Handler name.now
-opening_of Thread = line.Thread
-opening_of Racer = line.Racer
-opening_of (Repeat times) = line.Repeat times.now
-
-abbrev pub block_of : Block → block.Block
-block_of b = record { number = b.number; opening = opening_of b.opening }
-
--- the blocks with the innermost first, where the outermost comes first
-unfoldable pub blocks_of : List Block → List block.Block
-blocks_of bs = reverse (map block_of bs)
+use Rattle.script_lines.specs.declared.open_blocks.Blocks.{Blocks}
+use Rattle.script_lines.specs.Openings.{opening_of, blocks_of}
 
 abbrev pub open_blocks : Blocks → List block.Block
 open_blocks b = blocks_of b.from_outside

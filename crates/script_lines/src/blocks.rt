@@ -4,8 +4,10 @@ ghost use Rattle.std.specs.Prelude.{◌≡◌, ℕ, [], List, Some, IfOk, option
 ghost use Rattle.call_script.specs.Block as block;
 ghost use Rattle.script_lines.specs.Lines as lines;
 ghost use Rattle.script_lines.specs.Nesting as spec;
+ghost use Rattle.script_lines.specs.Openings as openings;
 
 use crate::line::{Line, Scope};
+use crate::open_blocks::Blocks;
 use sqlite_items::Items;
 use std::alloc::{AllocError, Global};
 
@@ -46,7 +48,7 @@ fn nesting_of<'a>(line: &Line<'a>) -> Nesting<'a>
 /// The scope in a block, where the scope around it is given.
 fn scope_in<'a>(opening: &Opening<'a>, around: Scope<'a>) -> Scope<'a>
     ensures { lines.scope_of result
-        ≡ block.scope_in (spec.opening_of opening.now) (lines.scope_of around.entry) }
+        ≡ block.scope_in (openings.opening_of opening.now) (lines.scope_of around.entry) }
 {
     match opening {
         Opening::Body { name } => Scope::InBody { name: *name },
@@ -65,18 +67,13 @@ fn scope_in<'a>(opening: &Opening<'a>, around: Scope<'a>) -> Scope<'a>
 pub struct Block<'a> {
     pub number: u32,
     pub opening: Opening<'a>,
-}
-
-/// The blocks that are open.
-#[derive(Drop)]
-pub struct Blocks<'a> {
-    /// The outermost comes first.
-    pub from_outside: Items<Block<'a>>,
+    /// The scope in it.
+    pub scope: Scope<'a>,
 }
 
 impl<'a> Blocks<'a> {
     /// No blocks.
-    #[tactic(auto, using(crate::proofs::NestingLaws::no_blocks))]
+    #[tactic(auto, using(crate::proofs::NestingLaws::no_blocks, crate::proofs::NestingLaws::no_scopes))]
     pub fn new(alloc: Global) -> Blocks<'a>
         ensures { spec.open_blocks result ≡ [] }
     {
@@ -86,14 +83,14 @@ impl<'a> Blocks<'a> {
     }
 
     /// The scope in the blocks.
+    #[tactic(auto, using(crate::proofs::NestingLaws::none_scoped, crate::proofs::NestingLaws::last_scoped))]
     pub fn scope(&self) -> Scope<'a>
         ensures { lines.scope_of result ≡ block.scope_of (spec.open_blocks self.now) }
     {
-        let mut scope = Scope::Outside;
-        for block in self.from_outside.as_slice() {
-            scope = scope_in(&block.opening, scope);
+        match self.from_outside.as_slice() {
+            [.., last] => last.scope,
+            [] => Scope::Outside,
         }
-        scope
     }
 
     /// The number of the line that opens the outermost block.
@@ -129,7 +126,12 @@ impl<'a> Blocks<'a> {
         };
         match nesting_of(line) {
             Nesting::Opens(opening) => {
-                self.from_outside.push(Block { number, opening })?;
+                let scope = scope_in(&opening, self.scope());
+                self.from_outside.push(Block {
+                    number,
+                    opening,
+                    scope,
+                })?;
             }
             Nesting::Closes => {
                 let _ = self.from_outside.pop();

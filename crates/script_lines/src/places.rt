@@ -8,9 +8,9 @@ ghost use Rattle.script_lines.specs.Lines as lines;
 ghost use Rattle.script_lines.specs.Nesting as spec;
 ghost use Rattle.script_lines.specs.Places.{IsTaken};
 
-use crate::blocks::Blocks;
 use crate::line::Line;
 use crate::lines::line_in;
+use crate::open_blocks::Blocks;
 use script_words::{NumberedLine, NumberedLines};
 use std::alloc::{AllocError, Global};
 

@@ -6,8 +6,8 @@ use Rattle.call_script.specs.Block.{placed_from, placed_lines}
 use Rattle.call_script.specs.Standing.{lines_of}
 use Rattle.script_lines.specs.declared.places.PlacedLines.{PlacedLines}
 use Rattle.script_lines.specs.Nesting.{open_blocks}
-use Rattle.script_lines.specs.Places.{IsTaken}
-use Rattle.script_value.specs.Left.{placed_left, left, formed_lines}
+use Rattle.script_lines.specs.Places.{IsTaken, placed_left}
+use Rattle.script_value.specs.Left.{left, formed_lines}
 
 -- all of them
 pub all_left : (p : PlacedLines) (bytes : List ℕ) → open_blocks p.blocks ≡ [] → p.lines ≡ numbered_lines bytes

@@ -1,13 +1,10 @@
 -- What is left of a script.
 use Rattle.std.specs.Prelude.{ℕ, List}
 use Rattle.call_script.specs.Line.{Line}
-use Rattle.call_script.specs.Block.{PlacedLine, placed_from, placed_lines}
+use Rattle.call_script.specs.Block.{placed_lines}
 use Rattle.call_script.specs.Standing.{lines_of}
 use Rattle.script_lines.specs.declared.places.PlacedLines.{PlacedLines}
-use Rattle.script_lines.specs.Nesting.{open_blocks}
-
-abbrev pub placed_left : PlacedLines → List PlacedLine
-placed_left p = placed_from (open_blocks p.blocks) p.lines
+use Rattle.script_lines.specs.Places.{placed_left}
 
 -- the lines that have a form, of those that are left
 unfoldable pub left : PlacedLines → List Line

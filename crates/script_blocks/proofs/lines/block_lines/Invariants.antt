@@ -1,6 +1,7 @@
 use Rattle.std.proofs.Common.{◌≡◌, ◌++◌, length, map}
 use Rattle.call_script.specs.Block.{placed_lines}
-use Rattle.script_blocks.specs.Blocks.{home_line, block_lines, placed_left}
+use Rattle.script_blocks.specs.Blocks.{home_line, block_lines}
+use Rattle.script_lines.specs.Places.{placed_left}
 use Rattle.script_blocks.proofs.lines.block_lines.Given as goal
 
 abbrev pub invariant-loop-placed : goal.invariant-loop-placed

@@ -4,7 +4,7 @@ use Rattle.call_script.specs.Block.{scope_of}
 use Rattle.call_script.specs.Faults.{rows}
 use Rattle.call_script.specs.Standing.{lines_before, handled_function, is_handler}
 use Rattle.script_lines.specs.Lines.{line_of}
-use Rattle.script_lines.specs.Nesting.{blocks_of}
+use Rattle.script_lines.specs.Openings.{blocks_of}
 use Rattle.script_faults.proofs.CodeLaws.{IsFirst, step, none}
 use Rattle.script_faults.proofs.codes.code_of.Goals as goal
 

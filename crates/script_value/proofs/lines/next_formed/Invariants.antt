@@ -1,5 +1,6 @@
 use Rattle.std.proofs.Common.{◌≡◌, length}
-use Rattle.script_value.specs.Left.{placed_left, left}
+use Rattle.script_lines.specs.Places.{placed_left}
+use Rattle.script_value.specs.Left.{left}
 use Rattle.script_value.proofs.lines.next_formed.Given as goal
 
 abbrev pub invariant-loop-line : goal.invariant-loop-line

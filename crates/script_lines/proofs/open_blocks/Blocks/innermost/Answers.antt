@@ -1,7 +1,8 @@
 use Rattle.std.proofs.Common.{arith, ap, ◌∙◌}
-use Rattle.script_lines.specs.Nesting.{innermost, blocks_of}
+use Rattle.script_lines.specs.Openings.{blocks_of}
+use Rattle.script_lines.specs.Nesting.{innermost}
 use Rattle.script_lines.proofs.NestingLaws.{none_innermost, last_innermost}
-use Rattle.script_lines.proofs.blocks.Blocks.innermost.Goals as goal
+use Rattle.script_lines.proofs.open_blocks.Blocks.innermost.Goals as goal
 
 pub returns-in-empty : goal.returns-in-empty
 returns-in-empty c =
