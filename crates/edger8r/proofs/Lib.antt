@@ -1,0 +1,4 @@
+pub mod AnswerLaws
+pub mod CompleteLaws
+pub mod KeptLaws
+pub mod MakeLaws
