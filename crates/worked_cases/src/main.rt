@@ -5,6 +5,7 @@ use callrun::callrun;
 use case_files::{
     Case, CaseFault, Flaw, Span, Trial, cases_of, difference_of, parts_of, shown, span_of, trial_of,
 };
+use edger8r::edger8r;
 use sgx_base::{Files, Sink, Word};
 use std::alloc::{AllocError, Global};
 use std::process::ExitCode;
@@ -21,6 +22,7 @@ fn run_program<F: Files, O: Sink>(
 ) -> Option<u8> {
     match program {
         b"sgx_callrun" => Some(callrun(alloc, words, files, sink)),
+        b"sgx_edger8r" => Some(edger8r(alloc, words, files, sink)),
         _ => None,
     }
 }

@@ -1,0 +1,1 @@
+#define sgx_lfence() __asm__ volatile("lfence" ::: "memory")
