@@ -19,6 +19,7 @@ pub enum FileFault {
 ///
 /// Their state tells the bytes of each file, or nothing, and counts what went wrong. The counts never fall.
 pub trait Files {
+    ghost use Rattle.std.specs.Prelude.{◌≡◌, OnOk};
     ghost use Rattle.sgx_base.specs.Stores.{FilesState, AreOnlyRead, IsReadOf, IsOnlyWritten, IsWriteOf};
 
     ghost state: { Self → FilesState };
@@ -28,8 +29,10 @@ pub trait Files {
         ensures kept { AreOnlyRead (state self.old) (state self.new) }
         ensures told { IsReadOf name.now result (state self.old) (state self.new) };
 
-    /// Writes a file whole. After an Err nothing is told of this file; all others stay.
+    /// Writes a file whole. After an Err nothing is told of this file; all others stay. A write that is done counts as no
+    /// failed one.
     fn write(&mut self, alloc: Global, name: &str, bytes: &[u8]) -> Result<(), FileFault>
         ensures kept { IsOnlyWritten name.now (state self.old) (state self.new) }
-        ensures told { IsWriteOf name.now bytes.now result (state self.old) (state self.new) };
+        ensures told { IsWriteOf name.now bytes.now result (state self.old) (state self.new) }
+        ensures counted { OnOk result ((state self.new).write_faults ≡ (state self.old).write_faults) };
 }
