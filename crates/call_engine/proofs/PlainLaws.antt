@@ -19,7 +19,7 @@ use Rattle.call_script.specs.declared.CallArg.TheVariants.{At, Null, Number, Byt
 use Rattle.call_script.specs.declared.Place.TheVariants.{At as at_address, InFrame}
 use Rattle.call_script.specs.declared.HostAct.{HostAct, Call}
 use Rattle.call_script.specs.declared.Script.{Script}
-use Rattle.call_script.specs.PlainScript.{sum_actions, ArePlainBodies, IsArgument, IsPointerArgument, AreArguments, IsPlainCall, IsPlainScript}
+use Rattle.call_machine.specs.PlainScript.{sum_actions, ArePlainBodies, IsArgument, IsPointerArgument, AreArguments, IsPlainCall, IsPlainScript}
 use Rattle.call_script.specs.Faults.{max_nesting}
 use Rattle.call_script.specs.Sound.{IsSoundBody, AreSoundActions, is_temporary_action, OfThread, IsSoundPointer, IsSoundArgument, IsSoundAct, AreSoundActs, IsSoundScript}
 use Rattle.script_laws.proofs.EngineLaws.{port-words}

@@ -4,7 +4,7 @@ ghost use Rattle.std.specs.Prelude.{◌≡◌, ◌≤◌, Ok, length, IfOk, IfEr
 ghost use Rattle.sgx_base.specs.Outcome.{OrMemory};
 ghost use Rattle.sgx_base.specs.Stores.{max_file_size};
 ghost use Rattle.edl_interface.specs.Sound.{IsSound};
-ghost use Rattle.call_script.specs.PlainScript.{IsPlainScript};
+ghost use Rattle.call_machine.specs.PlainScript.{IsPlainScript};
 ghost use Rattle.call_script.specs.Reading.{Reads};
 ghost use Rattle.script_reader.specs.Foreign.{foreign_types};
 ghost use Rattle.call_engine.specs.Interfaces.{AreKnown};

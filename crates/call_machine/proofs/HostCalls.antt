@@ -31,7 +31,7 @@ use Rattle.call_machine.specs.Acts.{Actor, acts_from, acts_of}
 use Rattle.call_machine.specs.Calls.{host_call, call_to, call_where, call_in_frame, entry, ecall_pool, unless_taken, with_record, with_return, no_frame, call_frame, string_lengths}
 use Rattle.call_machine.specs.Context.{Context, depth_of}
 use Rattle.call_machine.specs.Ecall.{ecall_record}
-use Rattle.call_script.specs.PlainScript.{IsPlainCall, AreArguments}
+use Rattle.call_machine.specs.PlainScript.{IsPlainCall, AreArguments}
 use Rattle.call_machine.specs.Tcs.{TcsState, context_of, moment}
 use Rattle.call_machine.specs.Result.{Outcome, is_success}
 use Rattle.call_machine.specs.Thread.{ecall, ecalls, host_actor, thread}

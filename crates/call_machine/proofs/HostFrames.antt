@@ -14,7 +14,7 @@ use Rattle.call_script.specs.declared.CallArg.{CallArg}
 use Rattle.call_script.specs.declared.CallArg.TheVariants.{At, Null, Number, Bytes}
 use Rattle.call_script.specs.declared.Place.{Place}
 use Rattle.call_machine.specs.Calls.{with_field, with_lengths}
-use Rattle.call_script.specs.PlainScript.{IsArgument, AreArguments}
+use Rattle.call_machine.specs.PlainScript.{IsArgument, AreArguments}
 
 -- the frame once the fields of these arguments are written too
 abbrev pub filled : List ℕ → List Param → List CallArg → List ℕ → List ℕ

@@ -21,7 +21,7 @@ use Rattle.call_machine.specs.Refusal.{field_rows}
 use Rattle.call_machine.specs.Result.{go_on_if_ok}
 use Rattle.call_machine.specs.Ecall.{Copies, copies_in, Ocalls, Answered, put_answer, body_and_answer, loaded_entry}
 use Rattle.call_machine.specs.Entry.{HasGrown, LoadedRuns, LoadedStops, AreCopiesOf, answered_at, sum_value}
-use Rattle.call_script.specs.PlainScript.{IsPlainBody}
+use Rattle.call_machine.specs.PlainScript.{IsPlainBody}
 use Rattle.call_machine.proofs.SummedBodies.{answer_is}
 use Rattle.call_machine.proofs.CopyResults.{AreChecked, copies_results}
 use Rattle.call_machine.proofs.Results.{result_made}

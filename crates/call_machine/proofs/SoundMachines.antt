@@ -7,7 +7,7 @@ use Rattle.edl_interface.specs.Parameters.{marshalled}
 use Rattle.edl_interface.specs.Runnable.{IsRunnableFunction}
 use Rattle.body_vm.specs.declared.Action.{Action}
 use Rattle.body_vm.specs.declared.Body.{Body}
-use Rattle.call_script.specs.PlainScript.{ArePlainBodies, sum_actions}
+use Rattle.call_machine.specs.PlainScript.{ArePlainBodies, sum_actions}
 use Rattle.call_machine.specs.declared.Machine.{Machine}
 use Rattle.call_machine.specs.Ecall.{actions_of}
 use Rattle.call_machine.specs.Plain.{IsPlainFunction, IsPlainMachine}

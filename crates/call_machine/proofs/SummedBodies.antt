@@ -14,7 +14,7 @@ use Rattle.call_machine.specs.declared.Machine.{Machine}
 use Rattle.call_machine.specs.Context.{Context, context_in_ecall}
 use Rattle.call_machine.specs.Ecall.{is_temp, Copies, Ocalls, Finished, interpret, body_of, actions_of, Answered, put_answer, body_and_answer}
 use Rattle.call_machine.specs.Entry.{HasBlock, HasBlocks, answered_at, summed}
-use Rattle.call_script.specs.PlainScript.{IsPlainBody, ArePlainBodies, sum_actions}
+use Rattle.call_machine.specs.PlainScript.{IsPlainBody, ArePlainBodies, sum_actions}
 
 -- how such a body gives its value
 ran : (m : Machine) (ocalls : Ocalls) (cx : Context) (values : List ℕ) (blocks : List (Option (List ℕ))) (room : ℕ) (actions : List Action)

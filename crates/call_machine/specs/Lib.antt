@@ -6,6 +6,7 @@ pub mod Entry
 pub mod Made
 pub mod Ocall
 pub mod Plain
+pub mod PlainScript
 pub mod Refusal
 pub mod Reported
 pub mod Result

@@ -5,7 +5,7 @@ use Rattle.edl_interface.specs.declared.Function.{Function}
 use Rattle.edl_interface.specs.declared.Interface.{Interface}
 use Rattle.edl_interface.specs.Parameters.{has_frame, IsWordSized}
 use Rattle.edl_interface.specs.Runnable.{IsRunnableFunction}
-use Rattle.call_script.specs.PlainScript.{IsPlainScript}
+use Rattle.call_machine.specs.PlainScript.{IsPlainScript}
 use Rattle.call_machine.specs.declared.Machine.{Machine}
 
 -- a public function whose parameters and frame the engine can hold; where it has no frame, the frame's size is 0

@@ -5,7 +5,7 @@ ghost use Rattle.sgx_base.specs.Bytes.{low_bytes, with_bytes_at};
 ghost use Rattle.edl_interface.specs.Parameters.{field_size, IsWordSized};
 ghost use Rattle.edl_interface.specs.Runnable.{field_end};
 ghost use Rattle.call_machine.specs.Calls.{argument_address, call_frame, field_bytes, with_field};
-ghost use Rattle.call_script.specs.PlainScript.{IsArgument, AreArguments};
+ghost use Rattle.call_machine.specs.PlainScript.{IsArgument, AreArguments};
 
 use call_script::{CallArg, Place};
 use edl_interface::{Function, Param};

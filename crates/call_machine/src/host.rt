@@ -12,7 +12,7 @@ ghost use Rattle.call_report.specs.declared.CallRecord.{CallRecord};
 ghost use Rattle.call_report.specs.RecordList.{with_records};
 ghost use Rattle.call_machine.specs.Calls.{host_call, call_where, call_in_frame, no_frame};
 ghost use Rattle.call_machine.specs.Context.{Context};
-ghost use Rattle.call_script.specs.PlainScript.{IsPlainCall, AreArguments};
+ghost use Rattle.call_machine.specs.PlainScript.{IsPlainCall, AreArguments};
 ghost use Rattle.call_machine.specs.Plain.{IsPlainMachine, IsPlainFunction};
 ghost use Rattle.call_machine.specs.Made.{MakesCalls};
 ghost use Rattle.call_machine.specs.Result.{Outcome};

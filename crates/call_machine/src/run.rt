@@ -2,7 +2,7 @@
 
 ghost use Rattle.std.specs.Prelude.{◌≡◌, ◌≤◌, ◌+◌, ◌/◌, [], All, IfOk, IfErr};
 ghost use Rattle.sgx_base.specs.Ranges.{host_start};
-ghost use Rattle.call_script.specs.PlainScript.{IsPlainCall, ArePlainSettings};
+ghost use Rattle.call_machine.specs.PlainScript.{IsPlainCall, ArePlainSettings};
 ghost use Rattle.call_machine.specs.Plain.{IsPlainMachine};
 ghost use Rattle.call_machine.specs.Reported.{IsReportOf, acts_at};
 ghost use Rattle.call_machine.specs.Run.{IsRunFault};

@@ -10,7 +10,7 @@ ghost use Rattle.word_port.specs.declared.RunFull.TheVariants.{Steps};
 ghost use Rattle.call_copy.specs.Stops.{IsCutShort};
 ghost use Rattle.edl_interface.specs.Runnable.{IsPassed};
 ghost use Rattle.call_machine.specs.Calls.{IsUnitSeen, string_loads, string_length as string_length_of, string_lengths as string_lengths_of};
-ghost use Rattle.call_script.specs.PlainScript.{AreArguments};
+ghost use Rattle.call_machine.specs.PlainScript.{AreArguments};
 
 use crate::arguments::address_of;
 use call_copy::load_bytes;

@@ -12,7 +12,7 @@ use Rattle.body_vm.specs.declared.Action.{Action}
 use Rattle.call_script.specs.declared.CallArg.{CallArg}
 use Rattle.call_script.specs.declared.CallArg.TheVariants.{At, Null, Number, Bytes}
 use Rattle.call_script.specs.declared.HostAct.{HostAct}
-use Rattle.call_script.specs.PlainScript.{IsArgument, AreArguments, IsPlainCall}
+use Rattle.call_machine.specs.PlainScript.{IsArgument, AreArguments, IsPlainCall}
 use Rattle.call_machine.specs.declared.Machine.{Machine}
 use Rattle.call_machine.specs.Ecall.{actions_of}
 use Rattle.call_machine.specs.Plain.{IsPlainMachine}
