@@ -1,49 +1,47 @@
 -- A script with one more line that means nothing.
-use Rattle.std.proofs.Common.{arith, ℕ, suc, ◌≡◌, ◌+◌, ◌≤◌, ◌<◌, Bool, true, false, ltb-true, ltb-false, List, [], ◌∷◌, ◌++◌, length, refl, sym, ◌∙◌, ap}
-use Rattle.std.specs.Prelude.{Ok, nat_lt, map, if◌then◌else◌}
-use Rattle.std.proofs.lemmas.Bool.{lt-ltb, le-ltb}
+use Rattle.std.proofs.Common.{arith, ℕ, ◌≡◌, ◌+◌, ◌≤◌, ◌<◌, Bool, true, false, leb-true, leb-false, List, [], ◌∷◌, ◌++◌, length, Option, Some, None, refl, sym, ◌∙◌, ap}
+use Rattle.std.specs.Prelude.{Result, nat_le, map, option_map, if◌then◌else◌}
+use Rattle.std.proofs.lemmas.Bool.{le-leb, lt-leb}
 use Rattle.edl_interface.specs.declared.Interface.{Interface}
 use Rattle.call_script.specs.declared.Script.{Script}
 use Rattle.call_script.specs.Spelling.{NumberedLine, numbered_from, means_nothing, words, lines}
-use Rattle.call_script.specs.Block.{placed_from, placed_lines}
+use Rattle.call_script.specs.Block.{PlacedLine, placed_from, placed_lines}
+use Rattle.call_script.specs.Faults.{Fault, script_fault}
 use Rattle.call_script.specs.Meaning.{script_value}
-use Rattle.call_script.specs.Reading.{script_of}
-use Rattle.script_laws.proofs.FineLines.{script-taken}
-use Rattle.script_language.proofs.RenumberLaws.{in_other, placed-other, value-other}
+use Rattle.call_script.specs.Reading.{script_of, unless_fault}
+use Rattle.script_language.specs.Said.{moved_line, moved}
+use Rattle.script_language.proofs.RenumberLaws.{in_other, line_other, placed-other, value-other}
+use Rattle.script_language.proofs.RenumberedFault.{fault_other, script-fault-other}
 
--- the number of a line behind which the line of this number was put in
-abbrev later : ℕ → ℕ → ℕ
-later k n = if nat_lt n k then n else n + 1
+moved-below : (k n : ℕ) → n ≤ k → moved_line k n ≡ n
+moved-below k n h = rw (le-leb n k h) refl
 
-later-below : (k n : ℕ) → n < k → later k n ≡ n
-later-below k n h = rw (lt-ltb n k h) refl
+moved-above : (k n : ℕ) → k < n → moved_line k n ≡ n + 1
+moved-above k n h = rw (lt-leb n k h) refl
 
-later-above : (k n : ℕ) → k ≤ n → later k n ≡ n + 1
-later-above k n h = rw (le-ltb n k h) refl
+moved-none : (k : ℕ) → moved_line k 0 ≡ 0
+moved-none k = moved-below k 0 (omega arith)
 
-later-none : (k : ℕ) → later (suc k) 0 ≡ 0
-later-none k = later-below (suc k) 0 (omega arith)
-
-later-only : (k a b : ℕ) → later k a ≡ later k b → a ≡ b
-later-only k a b e = go (nat_lt a k) (nat_lt b k) refl refl e
+moved-only : (k a b : ℕ) → moved_line k a ≡ moved_line k b → a ≡ b
+moved-only k a b e = go (nat_le a k) (nat_le b k) refl refl e
   where
-    go : (t u : Bool) → nat_lt a k ≡ t → nat_lt b k ≡ u → (if t then a else a + 1) ≡ (if u then b else b + 1) → a ≡ b
+    go : (t u : Bool) → nat_le a k ≡ t → nat_le b k ≡ u → (if t then a else a + 1) ≡ (if u then b else b + 1) → a ≡ b
     go true true h j e = e
     go false false h j e = omega arith
     go true false h j e =
-        let below : a < k = ltb-true a k h in
-        let above : k ≤ b = ltb-false b k j in
+        let below : a ≤ k = leb-true a k h in
+        let above : k < b = leb-false b k j in
         omega arith
     go false true h j e =
-        let above : k ≤ a = ltb-false a k h in
-        let below : b < k = ltb-true b k j in
+        let above : k < a = leb-false a k h in
+        let below : b ≤ k = leb-true b k j in
         omega arith
 
 module _ (k : ℕ) where
   other : NumberedLine → NumberedLine
-  other = in_other (later (suc k)) (later-only (suc k)) (later-none k)
+  other = in_other (moved_line k) (moved-only k) (moved-none k)
 
-  numbered-above : (n : ℕ) (ls : List (List ℕ)) → suc k ≤ n → numbered_from (n + 1) ls ≡ map other (numbered_from n ls)
+  numbered-above : (n : ℕ) (ls : List (List ℕ)) → k < n → numbered_from (n + 1) ls ≡ map other (numbered_from n ls)
   unfolding other
   numbered-above n [] h = refl
   numbered-above n (l ∷ ls) h =
@@ -54,10 +52,10 @@ module _ (k : ℕ) where
           ≡ map other (if t then numbered_from (n + 1) ls else record { number = n; words = words l } ∷ numbered_from (n + 1) ls)
       go true rest = rest
       go false rest =
-          let here : n + 1 ≡ later (suc k) n = sym (later-above (suc k) n h) in
+          let here : n + 1 ≡ moved_line k n = sym (moved-above k n h) in
           λ j. record { number = here j; words = words l } ∷ rest j
 
-  numbered-inserted : (n : ℕ) (before : List (List ℕ)) (x : List ℕ) (behind : List (List ℕ)) → n + length before ≡ suc k
+  numbered-inserted : (n : ℕ) (before : List (List ℕ)) (x : List ℕ) (behind : List (List ℕ)) → n + length before ≡ k + 1
       → means_nothing (words x) ≡ true
       → numbered_from n (before ++ x ∷ behind) ≡ map other (numbered_from n (before ++ behind))
   unfolding other
@@ -73,30 +71,49 @@ module _ (k : ℕ) where
           else record { number = n; words = words l } ∷ numbered_from (n + 1) (before ++ behind))
       go true rest = rest
       go false rest =
-          let here : n ≡ later (suc k) n = sym (later-below (suc k) n (omega arith)) in
+          let here : n ≡ moved_line k n = sym (moved-below k n (omega arith)) in
           λ j. record { number = here j; words = words l } ∷ rest j
 
-value-inserted : (i : Interface) (racing : Bool) (before : List (List ℕ)) (x : List ℕ) (behind : List (List ℕ))
-    → means_nothing (words x) ≡ true
-    → script_value i racing (placed_from [] (numbered_from 1 (before ++ x ∷ behind)))
-    ≡ script_value i racing (placed_from [] (numbered_from 1 (before ++ behind)))
-unfolding other
-value-inserted i racing before x behind silent =
-    ap (λ ls. script_value i racing (placed_from [] ls))
-    (numbered-inserted (length before) 1 before x behind (omega arith) silent)
-    ∙ ap (script_value i racing)
-    (placed-other (later (suc (length before))) (later-only (suc (length before))) (later-none (length before)) []
-    (numbered_from 1 (before ++ behind)))
-    ∙ value-other (later (suc (length before))) (later-only (suc (length before))) (later-none (length before)) i racing
-    (placed_from [] (numbered_from 1 (before ++ behind)))
+module _ (before : List (List ℕ)) (x : List ℕ) (behind : List (List ℕ)) (silent : means_nothing (words x) ≡ true) where
+  abbrev k : ℕ
+  k = length before
 
-pub same-script : (i : Interface) (racing : Bool) (before : List (List ℕ)) (x : List ℕ) (behind : List (List ℕ))
-    (bytes longer : List ℕ) (s t : Script) → means_nothing (words x) ≡ true → lines bytes ≡ before ++ behind
-    → lines longer ≡ before ++ x ∷ behind → script_of i racing bytes ≡ Ok s → script_of i racing longer ≡ Ok t → s ≡ t
-unfolding placed_lines
-same-script i racing before x behind bytes longer s t silent e k a b =
-    sym (script-taken i racing bytes s a).value
-    ∙ ap (λ ls. script_value i racing (placed_from [] (numbered_from 1 ls))) e
-    ∙ sym (value-inserted i racing before x behind silent)
-    ∙ sym (ap (λ ls. script_value i racing (placed_from [] (numbered_from 1 ls))) k)
-    ∙ (script-taken i racing longer t b).value
+  placed-inserted : placed_from [] (numbered_from 1 (before ++ x ∷ behind))
+      ≡ map (line_other (moved_line k) (moved-only k) (moved-none k)) (placed_from [] (numbered_from 1 (before ++ behind)))
+  unfolding other
+  placed-inserted =
+      ap (placed_from []) (numbered-inserted k 1 before x behind (omega arith) silent)
+      ∙ placed-other (moved_line k) (moved-only k) (moved-none k) [] (numbered_from 1 (before ++ behind))
+
+  module _ (i : Interface) (racing : Bool) where
+    abbrev pub read : List PlacedLine → Result Script Fault
+    read ps = unless_fault (script_fault i racing ps) (script_value i racing ps)
+
+    pub read-inserted : read (placed_from [] (numbered_from 1 (before ++ x ∷ behind)))
+        ≡ moved k (read (placed_from [] (numbered_from 1 (before ++ behind))))
+    read-inserted =
+        let fault = script-fault-other (moved_line k) (moved-only k) (moved-none k) i racing lines in
+        let value = value-other (moved_line k) (moved-only k) (moved-none k) i racing lines in
+        ap read placed-inserted
+        ∙ (λ j. unless_fault (fault j) (value j)) ∙ go (script_fault i racing lines) (script_value i racing lines)
+      where
+        lines : List PlacedLine
+        lines = placed_from [] (numbered_from 1 (before ++ behind))
+
+        go : (o : Option Fault) (s : Script)
+            → unless_fault (option_map (fault_other (moved_line k) (moved-only k) (moved-none k)) o) s
+            ≡ moved k (unless_fault o s)
+        go None s = refl
+        go (Some fault) s = refl
+
+pub moved-script : (i : Interface) (racing : Bool) (before : List (List ℕ)) (x : List ℕ) (behind : List (List ℕ))
+    (bytes longer : List ℕ) → means_nothing (words x) ≡ true → lines bytes ≡ before ++ behind
+    → lines longer ≡ before ++ x ∷ behind
+    → script_of i racing longer ≡ moved (length before) (script_of i racing bytes)
+unfolding script_of placed_lines
+moved-script i racing before x behind bytes longer silent e k =
+    ap (λ ls. unless_fault (script_fault i racing (placed_from [] (numbered_from 1 ls)))
+    (script_value i racing (placed_from [] (numbered_from 1 ls)))) k
+    ∙ read-inserted before x behind silent i racing
+    ∙ sym (ap (λ ls. moved (length before) (unless_fault (script_fault i racing (placed_from [] (numbered_from 1 ls)))
+    (script_value i racing (placed_from [] (numbered_from 1 ls))))) e)

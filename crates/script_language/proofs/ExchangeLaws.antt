@@ -1,41 +1,36 @@
 -- Two settings, one behind the other, exchanged in a script.
-use Rattle.std.proofs.Common.{ℕ, ◌≡◌, ◌+◌, Bool, true, false, List, [], ◌∷◌, ◌++◌, Some, refl, sym, ◌∙◌, ap}
-use Rattle.std.specs.Prelude.{Ok, fold, flat_map}
+use Rattle.std.proofs.Common.{arith, ℕ, ◌≡◌, ◌+◌, ◌<◌, Bool, true, false, leb-false, List, [], ◌∷◌, ◌++◌, length, refl, sym, ◌∙◌, ap, append_assoc}
+use Rattle.std.specs.Prelude.{Result, Ok, Err, ◌==◌, nat_le, fold, flat_map, if◌then◌else◌}
 use Rattle.std.specs.Str.{bytes_eq}
-use Rattle.std.proofs.lemmas.List.Elements.{filter_map-append}
+use Rattle.std.proofs.lemmas.List.{length-append}
 use Rattle.std.proofs.lemmas.List.Sums.{fold-append}
+use Rattle.std.proofs.lemmas.List.Elements.{filter_map-append}
 use Rattle.std.proofs.lemmas.Grind.{flat_map-append}
+use Rattle.std.proofs.lemmas.Slice.Eq.{bytes_eq-Decides}
 use Rattle.edl_interface.specs.declared.Interface.{Interface}
 use Rattle.call_script.specs.declared.Script.{Script}
-use Rattle.call_script.specs.Spelling.{Word, numbered_from, means_nothing, words, lines}
+use Rattle.call_script.specs.Spelling.{Word, numbered_from, words, lines}
 use Rattle.call_script.specs.Settings.{Setting}
 use Rattle.call_script.specs.Line.{Line, Set}
-use Rattle.call_script.specs.Block.{Block, PlacedLine, placed, placed_from, placed_lines, open_after}
+use Rattle.call_script.specs.Block.{Block, PlacedLine, placed_from, placed_lines}
 use Rattle.call_script.specs.Standing.{lines_of, setting_in}
+use Rattle.call_script.specs.Faults.{Fault}
 use Rattle.call_script.specs.Meaning.{host_behind, cells_behind, races_in, script_value}
 use Rattle.call_script.specs.Reading.{script_of}
-use Rattle.script_laws.proofs.FineLines.{lines_of-append, script-taken}
-use Rattle.script_blocks.specs.Blocks.{kept, block_lines}
+use Rattle.script_laws.proofs.FirstFault.{end_of, not_number}
+use Rattle.script_blocks.specs.Blocks.{kept as kept_line, block_lines}
 use Rattle.script_blocks.specs.declared.thread.Kind.TheVariants.{Thread, Racer}
 use Rattle.script_blocks.specs.Acts.{block_acts, opened_acts}
 use Rattle.script_blocks.specs.Slots.{handlers_of}
 use Rattle.script_blocks.specs.Bodies.{bodies_of}
-use Rattle.script_language.specs.Said.{GivesSetting}
-use Rattle.script_language.proofs.OrderLaws.{settings-exchanged}
+use Rattle.script_language.specs.Said.{GivesSetting, ChangePlaces, moved, exchanged, is_refused_at}
 use Rattle.script_language.proofs.ValueLaws.{value-alike}
-
-abbrev setting_at : ℕ → List Block → Setting → Word → PlacedLine
-setting_at n around s w = record { number = n; blocks = around; line = Some (Set s w) }
-
--- the same lines, but for two settings that are exchanged
-record AreExchanged (f g : Setting) (v w : Word) (xs ys : List PlacedLine) : Type 0 where
-  before : List PlacedLine
-  behind : List PlacedLine
-  around : List Block
-  first : ℕ
-  second : ℕ
-  one : xs ≡ before ++ setting_at first around f v ∷ setting_at second around g w ∷ behind
-  other : ys ≡ before ++ setting_at first around g w ∷ setting_at second around f v ∷ behind
+use Rattle.script_language.proofs.BlankLaws.{read-inserted}
+use Rattle.script_language.proofs.FirstLines.{AreOfKind}
+use Rattle.script_language.proofs.PlacedText.{text-splits, numbers-run}
+use Rattle.script_language.proofs.ExchangedLines.{setting_at, lines-append, all-alike}
+use Rattle.script_language.proofs.ExchangedResult.{IsApart}
+use Rattle.script_language.proofs.ExchangedReading.{reading, ahead, swapped as changed, reading-kept, reading-taken}
 
 -- ---- the value
 
@@ -49,23 +44,21 @@ module _ (f g : Setting) (v w : Word) (differ : bytes_eq f.word g.word ≡ false
 
   x-lines : lines_of xs ≡ lines_of before ++ Set f v ∷ Set g w ∷ lines_of behind
   unfolding xs
-  x-lines = lines_of-append before (setting_at n around f v ∷ setting_at m around g w ∷ behind)
+  x-lines = lines-append before (setting_at n around f v ∷ setting_at m around g w ∷ behind)
 
   y-lines : lines_of ys ≡ lines_of before ++ Set g w ∷ Set f v ∷ lines_of behind
   unfolding ys
-  y-lines = lines_of-append before (setting_at n around g w ∷ setting_at m around f v ∷ behind)
+  y-lines = lines-append before (setting_at n around g w ∷ setting_at m around f v ∷ behind)
 
   same-blocks : block_lines xs ≡ block_lines ys
   unfolding block_lines xs ys
   same-blocks =
-      filter_map-append kept before (setting_at n around f v ∷ setting_at m around g w ∷ behind)
-      ∙ sym (filter_map-append kept before (setting_at n around g w ∷ setting_at m around f v ∷ behind))
+      filter_map-append kept_line before (setting_at n around f v ∷ setting_at m around g w ∷ behind)
+      ∙ sym (filter_map-append kept_line before (setting_at n around g w ∷ setting_at m around f v ∷ behind))
 
   same-settings : (which : Setting) → setting_in (lines_of xs) which ≡ setting_in (lines_of ys) which
-  same-settings which =
-      ap (λ ls. setting_in ls which) x-lines
-      ∙ settings-exchanged (lines_of before) (lines_of behind) f g which v w differ
-      ∙ sym (ap (λ ls. setting_in ls which) y-lines)
+  unfolding xs ys
+  same-settings = (all-alike f g v w differ before around n m behind).numbers
 
   same-fold : (step : List ℕ → Line → List ℕ) → ((s : Setting) (x : Word) (b : List ℕ) → step b (Set s x) ≡ b)
       → (start : List ℕ) → fold step start (lines_of xs) ≡ fold step start (lines_of ys)
@@ -93,72 +86,162 @@ module _ (f g : Setting) (v w : Word) (differ : bytes_eq f.word g.word ≡ false
       (ap (handlers_of i) same-blocks) (ap (λ ls. block_acts i ls 0) same-blocks)
       (ap (λ ls. opened_acts i ls Thread ls) same-blocks) (ap (λ ls. opened_acts i ls Racer ls) same-blocks)
 
-value-exchanged : (i : Interface) (racing : Bool) (f g : Setting) (v w : Word) (ps qs : List PlacedLine)
-    → bytes_eq f.word g.word ≡ false → AreExchanged f g v w ps qs → script_value i racing ps ≡ script_value i racing qs
-unfolding xs ys
-value-exchanged i racing f g v w ps qs differ e =
-    ap (script_value i racing) e.one
-    ∙ same-value f g v w differ e.before e.behind e.around e.first e.second i racing
-    ∙ sym (ap (script_value i racing) e.other)
-
 -- ---- the text
 
-module _ (f g : Setting) (v w : Word) (x y : List ℕ) (first : GivesSetting x f v) (second : GivesSetting y g w) where
-  placed-setting : (n : ℕ) (around : List Block) (line : List ℕ) (s : Setting) (z : Word) (rest : List (List ℕ))
-      → GivesSetting line s z
-      → placed_from around (numbered_from n (line ∷ rest))
-      ≡ setting_at n around s z ∷ placed_from around (numbered_from (n + 1) rest)
-  placed-setting n around line s z rest gives = rw (gives.speaks, gives.form _) refl
+differ-back : (a b : Word) → bytes_eq a b ≡ false → bytes_eq b a ≡ false
+differ-back a b h = go (bytes_eq b a) refl
+  where
+    go : (t : Bool) → bytes_eq b a ≡ t → t ≡ false
+    go true e =
+        let same : b ≡ a = (bytes_eq-Decides b a).0 e in
+        let turned : bytes_eq b a ≡ bytes_eq a b = λ j. bytes_eq (same j) (sym same j) in
+        absurd cc
+    go false e = refl
 
-  lines-exchanged : (n : ℕ) (around : List Block) (before behind : List (List ℕ))
-      → AreExchanged f g v w (placed_from around (numbered_from n (before ++ x ∷ y ∷ behind)))
-      (placed_from around (numbered_from n (before ++ y ∷ x ∷ behind)))
-  lines-exchanged n around [] behind = record {
-    before = [];
-    behind = placed_from around (numbered_from (n + 1 + 1) behind);
-    around = around;
-    first = n;
-    second = n + 1;
-    one = placed-setting n around x f v (y ∷ behind) first
-        ∙ ap (λ ls. setting_at n around f v ∷ ls) (placed-setting (n + 1) around y g w behind second);
-    other = placed-setting n around y g w (x ∷ behind) second
-        ∙ ap (λ ls. setting_at n around g w ∷ ls) (placed-setting (n + 1) around x f v behind first);
-  }
-  lines-exchanged n around (l ∷ before) behind =
-      go (means_nothing (words l)) refl (lines-exchanged (n + 1) around before behind)
-      (lines-exchanged (n + 1) (open_after here) before behind)
-    where
-      here : PlacedLine
-      here = placed around (record { number = n; words = words l })
+placed-setting : (n : ℕ) (around : List Block) (line : List ℕ) (s : Setting) (z : Word) (rest : List (List ℕ))
+    → GivesSetting line s z
+    → placed_from around (numbered_from n (line ∷ rest))
+    ≡ setting_at n around s z ∷ placed_from around (numbered_from (n + 1) rest)
+placed-setting n around line s z rest gives = rw (gives.speaks, gives.form _) refl
 
-      go : (t : Bool) → means_nothing (words l) ≡ t
-          → AreExchanged f g v w (placed_from around (numbered_from (n + 1) (before ++ x ∷ y ∷ behind)))
-          (placed_from around (numbered_from (n + 1) (before ++ y ∷ x ∷ behind)))
-          → AreExchanged f g v w (placed_from (open_after here) (numbered_from (n + 1) (before ++ x ∷ y ∷ behind)))
-          (placed_from (open_after here) (numbered_from (n + 1) (before ++ y ∷ x ∷ behind)))
-          → AreExchanged f g v w (placed_from around (numbered_from n (l ∷ before ++ x ∷ y ∷ behind)))
-          (placed_from around (numbered_from n (l ∷ before ++ y ∷ x ∷ behind)))
-      go true e silent spoken = rw e silent
-      go false e silent spoken = record {
-        before = here ∷ spoken.before;
-        behind = spoken.behind;
-        around = spoken.around;
-        first = spoken.first;
-        second = spoken.second;
-        one = rw e (ap (λ ls. here ∷ ls) spoken.one);
-        other = rw e (ap (λ ls. here ∷ ls) spoken.other);
-      }
+-- a text whose lines are placed so
+reading-of : (i : Interface) (racing : Bool) (bytes : List ℕ) (ls : List (List ℕ)) (ps : List PlacedLine)
+    → lines bytes ≡ ls → placed_from [] (numbered_from 1 ls) ≡ ps → script_of i racing bytes ≡ reading i racing ps
+unfolding script_of placed_lines
+reading-of i racing bytes ls ps e k =
+    ap (λ ls. reading i racing (placed_from [] (numbered_from 1 ls))) e ∙ ap (reading i racing) k
 
-pub same-script : (i : Interface) (racing : Bool) (before behind : List (List ℕ)) (x y : List ℕ) (f g : Setting)
-    (v w : Word) (bytes other : List ℕ) (s t : Script) → GivesSetting x f v → GivesSetting y g w
-    → bytes_eq f.word g.word ≡ false → lines bytes ≡ before ++ x ∷ y ∷ behind → lines other ≡ before ++ y ∷ x ∷ behind
-    → script_of i racing bytes ≡ Ok s → script_of i racing other ≡ Ok t → s ≡ t
-unfolding placed_lines
-same-script i racing before behind x y f g v w bytes other s t first second differ e k a b =
-    sym (script-taken i racing bytes s a).value
-    ∙ ap (λ ls. script_value i racing (placed_from [] (numbered_from 1 ls))) e
-    ∙ value-exchanged i racing f g v w (placed_from [] (numbered_from 1 (before ++ x ∷ y ∷ behind)))
-    (placed_from [] (numbered_from 1 (before ++ y ∷ x ∷ behind))) differ
-    (lines-exchanged f g v w x y first second 1 [] before behind)
-    ∙ sym (ap (λ ls. script_value i racing (placed_from [] (numbered_from 1 ls))) k)
-    ∙ (script-taken i racing other t b).value
+module _ (before behind : List (List ℕ)) where
+  abbrev at : ℕ
+  at = length before + 1
+
+  abbrev start : List PlacedLine
+  start = placed_from [] (numbered_from 1 before)
+
+  abbrev around : List Block
+  around = end_of [] (numbered_from 1 before)
+
+  abbrev rest : List PlacedLine
+  rest = placed_from around (numbered_from (at + 1 + 1) behind)
+
+  text-from : (ls : List (List ℕ))
+      → placed_from [] (numbered_from 1 (before ++ ls)) ≡ start ++ placed_from around (numbered_from at ls)
+  text-from ls =
+      text-splits [] 1 before ls
+      ∙ ap (λ m. start ++ placed_from around (numbered_from m ls)) (omega arith)
+
+  text-two : (x y : List ℕ) (f g : Setting) (v w : Word) → GivesSetting x f v → GivesSetting y g w
+      → placed_from [] (numbered_from 1 (before ++ x ∷ y ∷ behind))
+      ≡ start ++ setting_at at around f v ∷ setting_at (at + 1) around g w ∷ rest
+  text-two x y f g v w first second =
+      text-from (x ∷ y ∷ behind)
+      ∙ ap (λ ls. start ++ ls) (placed-setting at around x f v (y ∷ behind) first
+      ∙ ap (λ ls. setting_at at around f v ∷ ls) (placed-setting (at + 1) around y g w behind second))
+
+  -- one of them, and a blank line in place of the other
+  text-one : (y : List ℕ) (g : Setting) (w : Word) → GivesSetting y g w
+      → placed_from [] (numbered_from 1 (before ++ y ∷ [] ∷ behind)) ≡ start ++ setting_at at around g w ∷ rest
+  unfolding words
+  text-one y g w second =
+      text-from (y ∷ [] ∷ behind) ∙ ap (λ ls. start ++ ls) (placed-setting at around y g w ([] ∷ behind) second)
+
+  start-apart : AreOfKind (IsApart at) start
+  start-apart =
+      numbers-run (IsApart at) [] 1 before (λ m h k. (λ e. absurd (omega arith), λ e. absurd (omega arith)))
+
+  rest-apart : AreOfKind (IsApart at) rest
+  rest-apart =
+      numbers-run (IsApart at) around (at + 1 + 1) behind
+      (λ m h k. (λ e. absurd (omega arith), λ e. absurd (omega arith)))
+
+  module _ (i : Interface) (racing : Bool) where
+    -- without the blank line
+    read-one : (y : List ℕ) (g : Setting) (w : Word) (without : List ℕ) → GivesSetting y g w
+        → lines without ≡ before ++ y ∷ behind
+        → reading i racing (start ++ setting_at at around g w ∷ rest) ≡ moved at (script_of i racing without)
+    unfolding words
+    read-one y g w without second e =
+        sym (ap (λ ls. reading i racing (placed_from [] (numbered_from 1 ls))) (append_assoc before (y ∷ []) ([] ∷ behind))
+        ∙ ap (reading i racing) (text-one y g w second))
+        ∙ read-inserted (before ++ y ∷ []) [] behind refl i racing
+        ∙ (λ j. moved (count j) (lone j))
+      where
+        count : length (before ++ y ∷ []) ≡ at
+        count = length-append before (y ∷ []) ∙ omega arith
+
+        lone : reading i racing (placed_from [] (numbered_from 1 ((before ++ y ∷ []) ++ behind)))
+            ≡ script_of i racing without
+        lone = sym (reading-of i racing without (before ++ y ∷ behind)
+            (placed_from [] (numbered_from 1 ((before ++ y ∷ []) ++ behind))) e
+            (sym (ap (λ ls. placed_from [] (numbered_from 1 ls)) (append_assoc before (y ∷ []) behind))))
+
+-- a fault at the line behind which a line was put in has not moved
+moved-taken : (n : ℕ) (r other : Result Script Fault)
+    → (if is_refused_at n (moved n r) then moved n r else other) ≡ (if is_refused_at n r then r else other)
+moved-taken n (Ok s) other = refl
+moved-taken n (Err fault) other = go (nat_le fault.line n) refl
+  where
+    go : (t : Bool) → nat_le fault.line n ≡ t
+        → (if (if t then fault.line else fault.line + 1) == n
+        then Err (record { line = if t then fault.line else fault.line + 1; code = fault.code }) else other)
+        ≡ (if fault.line == n then Err fault else other)
+    go true e = refl
+    go false e =
+        let above : n < fault.line = leb-false fault.line n e in
+        rw (
+          not_number fault.line n (λ k. absurd (omega arith)),
+          not_number (fault.line + 1) n (λ k. absurd (omega arith)),
+        ) refl
+
+module _ (i : Interface) (racing : Bool) (before : List (List ℕ)) (x y : List ℕ) (behind : List (List ℕ))
+    (bytes swapped : List ℕ) (h : ChangePlaces before x y behind bytes swapped) where
+  other-words : bytes_eq h.second.word h.first.word ≡ false
+  other-words = differ-back h.first.word h.second.word h.differ
+
+  bytes-are : script_of i racing bytes
+      ≡ reading i racing (ahead i racing h.first h.second h.number h.other h.differ other-words (start before behind)
+      (around before behind) (at before behind) (rest before behind))
+  bytes-are =
+      reading-of i racing bytes (before ++ x ∷ y ∷ behind) _ h.here
+      (text-two before behind x y h.first h.second h.number h.other h.one h.two)
+
+  swapped-are : script_of i racing swapped
+      ≡ reading i racing (changed i racing h.first h.second h.number h.other h.differ other-words (start before behind)
+      (around before behind) (at before behind) (rest before behind))
+  swapped-are =
+      reading-of i racing swapped (before ++ y ∷ x ∷ behind) _ h.there
+      (text-two before behind y x h.second h.first h.other h.number h.two h.one)
+
+  value : script_value i racing (changed i racing h.first h.second h.number h.other h.differ other-words
+      (start before behind) (around before behind) (at before behind) (rest before behind))
+      ≡ script_value i racing (ahead i racing h.first h.second h.number h.other h.differ other-words
+      (start before behind) (around before behind) (at before behind) (rest before behind))
+  unfolding xs ys
+  value =
+      sym (same-value h.first h.second h.number h.other h.differ (start before behind) (rest before behind)
+      (around before behind) (at before behind) (at before behind + 1) i racing)
+
+  pub kept : is_refused_at (length before + 1) (script_of i racing bytes) ≡ false
+      → script_of i racing swapped ≡ exchanged (length before + 1) (script_of i racing bytes)
+  kept e =
+      swapped-are
+      ∙ reading-kept i racing h.first h.second h.number h.other h.differ other-words (start before behind)
+      (around before behind) (at before behind) (rest before behind) (omega arith) (start-apart before behind)
+      (rest-apart before behind) value (sym (ap (is_refused_at (at before behind)) bytes-are) ∙ e)
+      ∙ sym (ap (exchanged (at before behind)) bytes-are)
+
+  pub taken : (without : List ℕ) → lines without ≡ before ++ y ∷ behind
+      → is_refused_at (length before + 1) (script_of i racing bytes) ≡ true
+      → script_of i racing swapped
+      ≡ (if is_refused_at (length before + 1) (script_of i racing without) then script_of i racing without
+      else exchanged (length before + 1) (script_of i racing bytes))
+  taken without k e =
+      let lone = read-one before behind i racing y h.second h.other without h.two k in
+      swapped-are
+      ∙ reading-taken i racing h.first h.second h.number h.other h.differ other-words (start before behind)
+      (around before behind) (at before behind) (rest before behind) (omega arith) (start-apart before behind)
+      (rest-apart before behind) value (sym (ap (is_refused_at (at before behind)) bytes-are) ∙ e)
+      ∙ (λ j. if is_refused_at (at before behind) (lone j) then lone j
+      else exchanged (at before behind) (sym bytes-are j))
+      ∙ moved-taken (at before behind) (script_of i racing without)
+      (exchanged (at before behind) (script_of i racing bytes))

@@ -1,6 +1,14 @@
 pub mod LineLaws
 pub mod OrderLaws
 pub mod ValueLaws
-pub mod ExchangeLaws
+pub mod SeenLaws
+pub mod FirstLines
 pub mod RenumberLaws
+pub mod RenumberedFault
 pub mod BlankLaws
+pub mod PlacedText
+pub mod ExchangedLines
+pub mod ExchangedResult
+pub mod ExchangedFault
+pub mod ExchangedReading
+pub mod ExchangeLaws

@@ -30,7 +30,7 @@ numbered-up-to n most (l ∷ ls) h = go (means_nothing (words l)) refl (numbered
     go true e k = rw e k
     go false e k = rw e (omega arith, k)
 
-fault-number : (n : ℕ) (o : Option Row) (fault : Fault) → option_map (fault_of n) o ≡ Some fault → fault.line ≡ n
+pub fault-number : (n : ℕ) (o : Option Row) (fault : Fault) → option_map (fault_of n) o ≡ Some fault → fault.line ≡ n
 fault-number n None fault e = absurd cc
 fault-number n (Some r) fault e = sym (ap (λ o. elim o as (λ v. ℕ) [ None ↦ n | Some f ↦ f.line ]) e)
 
@@ -70,7 +70,7 @@ module _ (i : Interface) (racing : Bool) where
       first-up-to (length (lines bytes)) [] [] (numbered_lines bytes)
       (numbered-up-to 1 (length (lines bytes)) (lines bytes) (omega arith)) fault e
 
-  stack-up-to : (script : List PlacedLine) (most : ℕ) (fault : Fault) → stack_fault racing script ≡ Some fault
+  pub stack-up-to : (script : List PlacedLine) (most : ℕ) (fault : Fault) → stack_fault racing script ≡ Some fault
       → fault.line ≤ most
   stack-up-to script most fault e = go (stacks_do_not_fit racing (lines_of script)) e
     where

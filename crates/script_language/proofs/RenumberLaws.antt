@@ -29,7 +29,7 @@ module _ (g : ℕ → ℕ) (only : (a b : ℕ) → g a ≡ g b → a ≡ b) (out
   abbrev pub in_other : NumberedLine → NumberedLine
   in_other l = record { number = g l.number; words = l.words }
 
-  abbrev block_other : Block → Block
+  abbrev pub block_other : Block → Block
   block_other b = record { number = g b.number; opening = b.opening }
 
   abbrev pub line_other : PlacedLine → PlacedLine
@@ -38,7 +38,7 @@ module _ (g : ℕ → ℕ) (only : (a b : ℕ) → g a ≡ g b → a ≡ b) (out
   abbrev home_other : HomeLine → HomeLine
   home_other l = record { number = g l.number; home = g l.home; line = l.line }
 
-  same-test : (a b : ℕ) → (g a == g b) ≡ (a == b)
+  pub same-test : (a b : ℕ) → (g a == g b) ≡ (a == b)
   same-test a b = go (a == b) (g a == g b) refl refl
     where
       go : (t u : Bool) → (a == b) ≡ t → (g a == g b) ≡ u → u ≡ t
@@ -49,7 +49,7 @@ module _ (g : ℕ → ℕ) (only : (a b : ℕ) → g a ≡ g b → a ≡ b) (out
 
   -- ---- placed lines
 
-  scope-other : (bs : List Block) → scope_of (map block_other bs) ≡ scope_of bs
+  pub scope-other : (bs : List Block) → scope_of (map block_other bs) ≡ scope_of bs
   scope-other [] = refl
   scope-other (b ∷ bs) = ap (scope_in b.opening) (scope-other bs)
 
@@ -57,7 +57,7 @@ module _ (g : ℕ → ℕ) (only : (a b : ℕ) → g a ≡ g b → a ≡ b) (out
   drop-other [] = refl
   drop-other (b ∷ bs) = refl
 
-  open-other : (n : ℕ) (o : Option Line) (bs : List Block)
+  pub open-other : (n : ℕ) (o : Option Line) (bs : List Block)
       → open_behind (g n) o (map block_other bs) ≡ map block_other (open_behind n o bs)
   open-other n None bs = refl
   open-other n (Some (Set s w)) bs = refl
@@ -95,13 +95,13 @@ module _ (g : ℕ → ℕ) (only : (a b : ℕ) → g a ≡ g b → a ≡ b) (out
           let scope = scope-other around in
           λ j. record { number = g l.number; blocks = map block_other around; line = line_in (scope j) l.words }
 
-  lines-other : (ps : List PlacedLine) → lines_of (map line_other ps) ≡ lines_of ps
+  pub lines-other : (ps : List PlacedLine) → lines_of (map line_other ps) ≡ lines_of ps
   lines-other [] = refl
   lines-other (p ∷ ps) = ap (cons_option p.line) (lines-other ps)
 
   -- ---- lines of blocks
 
-  home-of-other : (p : PlacedLine) → home (line_other p) ≡ g (home p)
+  pub home-of-other : (p : PlacedLine) → home (line_other p) ≡ g (home p)
   home-of-other p = go p.blocks
     where
       go : (bs : List Block)
