@@ -1,74 +1,23 @@
--- A sound script of calls with plain bodies is one that the engine runs.
-use Rattle.std.proofs.Common.{arith, lit<, ℕ, ◌≡◌, ◌⊎◌, ◌+◌, ◌<◌, inl, inr, true, List, [], ◌∷◌, length, All, refl, ap, subst}
-use Rattle.std.specs.Prelude.{Bool, ◌&&◌, ◌==◌, filter}
+-- A sound script of calls is one that the engine runs.
+use Rattle.std.proofs.Common.{arith, lit<, ℕ, ◌≡◌, ◌+◌, ◌≤◌, true, List, [], ◌∷◌, length, All, refl}
+use Rattle.std.specs.Prelude.{Bool, ◌&&◌, ◌==◌}
 use Rattle.std.specs.List.{AllZip, list_all}
 use Rattle.std.proofs.lemmas.List.Elements.{All-cons, All-nil}
 use Rattle.std.proofs.lemmas.Bool.{and_parts, eqb-true}
 use Rattle.edl_interface.specs.declared.Class.{Class}
 use Rattle.edl_interface.specs.declared.Class.TheVariants.{Plain as by_value}
 use Rattle.edl_interface.specs.declared.Param.{Param}
-use Rattle.edl_interface.specs.declared.Function.{Function}
 use Rattle.edl_interface.specs.declared.Interface.{Interface}
-use Rattle.edl_interface.specs.Parameters.{marshalled}
-use Rattle.body_vm.specs.declared.Action.{Action}
-use Rattle.body_vm.specs.declared.Action.TheVariants.{Sum, Return}
-use Rattle.body_vm.specs.declared.Body.{Body}
-use Rattle.body_vm.specs.declared.Operand.TheVariants.{Reg}
 use Rattle.call_script.specs.declared.CallArg.{CallArg}
 use Rattle.call_script.specs.declared.CallArg.TheVariants.{At, Null, Number, Bytes}
 use Rattle.call_script.specs.declared.Place.TheVariants.{At as at_address, InFrame}
 use Rattle.call_script.specs.declared.HostAct.{HostAct, Call}
 use Rattle.call_script.specs.declared.Script.{Script}
-use Rattle.call_machine.specs.PlainScript.{sum_actions, ArePlainBodies, IsArgument, IsPointerArgument, AreArguments, IsPlainCall, IsPlainScript}
+use Rattle.call_machine.specs.PlainScript.{IsArgument, IsPointerArgument, AreArguments, IsPlainCall, IsPlainScript}
 use Rattle.call_script.specs.Faults.{max_nesting}
-use Rattle.call_script.specs.Sound.{IsSoundBody, AreSoundActions, is_temporary_action, OfThread, IsSoundPointer, IsSoundArgument, IsSoundAct, AreSoundActs, IsSoundScript}
+use Rattle.call_script.specs.Sound.{OfThread, IsSoundPointer, IsSoundArgument, IsSoundAct, AreSoundActs, IsSoundScript}
 use Rattle.script_laws.proofs.EngineLaws.{port-words}
-use Rattle.call_engine.specs.Plain.{is_sum, gives_first, are_plain, are_plain_bodies, is_call, are_plain_threads, has_no_workers, is_plain}
-
--- ---- bodies
-
-summed : (a : Action) → is_sum a ≡ true → (place : ℕ) × (a ≡ Sum 0 place)
-summed (Sum r place) e = (place, ap (λ k. Sum k place) (eqb-true r 0 e))
-summed _ e = absurd cc
-
-given : (a : Action) → gives_first a ≡ true → a ≡ Return (Reg 0)
-given (Return (Reg r)) e = ap (λ k. Return (Reg k)) (eqb-true r 0 e)
-given _ e = absurd cc
-
--- actions with as many temporaries as they make
-abbrev AreSound : Interface → ℕ → Function → List Action → Type 0
-AreSound i count f actions = AreSoundActions i count f (length (filter is_temporary_action actions)) actions
-
-two_actions : (i : Interface) (count : ℕ) (f : Function) (a b : Action) (place : ℕ) → a ≡ Sum 0 place → b ≡ Return (Reg 0)
-    → AreSound i count f (a ∷ b ∷ []) → (place < length (marshalled f)) × (a ∷ b ∷ [] ≡ sum_actions place)
-two_actions i count f a b place p q h =
-    let first : AreSound i count f (Sum 0 place ∷ b ∷ []) = subst (λ x. AreSound i count f (x ∷ b ∷ [])) p h in
-    let both : AreSound i count f (Sum 0 place ∷ Return (Reg 0) ∷ []) =
-    subst (λ y. AreSound i count f (Sum 0 place ∷ y ∷ [])) q first in
-    let lt : place < length (marshalled f) + 0 = both.0.1 in
-    let same : a ∷ b ∷ [] ≡ sum_actions place = rw (p, q) refl in
-    (omega arith, same)
-
-plain_actions : (i : Interface) (count : ℕ) (f : Function) (actions : List Action) → AreSound i count f actions
-    → are_plain actions ≡ true
-    → (actions ≡ []) ⊎ ((place : ℕ) × (place < length (marshalled f)) × (actions ≡ sum_actions place))
-plain_actions i count f [] h e = inl refl
-plain_actions i count f (a ∷ []) h e = absurd cc
-plain_actions i count f (a ∷ b ∷ []) h e =
-    let parts = and_parts (is_sum a) (gives_first b) e in
-    let sum = summed a parts.0 in
-    let two = two_actions i count f a b sum.0 sum.1 (given b parts.1) h in
-    inr (sum.0, two.0, two.1)
-plain_actions i count f (a ∷ b ∷ c ∷ rest) h e = absurd cc
-
-plain_bodies : (i : Interface) (count : ℕ) (fs : List Function) (bodies : List Body)
-    → AllZip (IsSoundBody i count) fs bodies → are_plain_bodies bodies ≡ true → ArePlainBodies fs bodies
-plain_bodies i count [] [] h e = tt
-plain_bodies i count [] (b ∷ bodies) h e = absurd h
-plain_bodies i count (f ∷ fs) [] h e = absurd h
-plain_bodies i count (f ∷ fs) (b ∷ bodies) h e =
-    let parts = and_parts (are_plain b.actions) (are_plain_bodies bodies) e in
-    (plain_actions i count f b.actions h.0.actions parts.0, plain_bodies i count fs bodies h.1 parts.1)
+use Rattle.call_engine.specs.Plain.{is_call, are_plain_threads, has_no_workers, is_plain}
 
 -- ---- calls
 
@@ -127,12 +76,14 @@ one_thread i size (acts ∷ more ∷ rest) h e = absurd cc
 
 -- ---- the script
 
+cells_there : (i : Interface) (racing : Bool) (s : Script) → IsSoundScript i racing s
+    → s.settings.host + s.settings.cells ≤ length s.words
+cells_there i racing s h = let count = h.words.count in omega (arith, count)
+
 pub plain_if_sound : (i : Interface) (racing : Bool) (s : Script) → IsSoundScript i racing s → is_plain s ≡ true
     → IsPlainScript i s
 plain_if_sound i racing s h e =
-    let bodies = and_parts ((has_no_workers s.settings && length s.racers == 0) && are_plain_threads s.threads)
-    (are_plain_bodies s.bodies) e in
-    let threads = and_parts (has_no_workers s.settings && length s.racers == 0) (are_plain_threads s.threads) bodies.0 in
+    let threads = and_parts (has_no_workers s.settings && length s.racers == 0) (are_plain_threads s.threads) e in
     let workers = and_parts (has_no_workers s.settings) (length s.racers == 0) threads.0 in
     let trusted = and_parts (s.settings.tworkers == 0) (s.settings.uworkers == 0) workers.0 in
     let port = port-words i racing s h in
@@ -149,11 +100,11 @@ plain_if_sound i racing s h e =
         stack_fits = h.stack_in_host;
         no_workers = eqb-true s.settings.tworkers 0 trusted.0;
       };
-      words_from = port.host;
+      words_from = cells_there i racing s h;
       words_upto = port.few;
       bytes = h.words.bytes;
       races = record { order = port.order; first = port.first; aims = port.aims };
-      bodies = plain_bodies i s.settings.cells i.ecalls s.bodies h.bodies bodies.1;
+      bodies = h.bodies;
       acts = one.acts;
       threads = one.alone;
       calls = one.calls;

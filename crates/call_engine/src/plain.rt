@@ -4,43 +4,8 @@ ghost use Rattle.std.specs.Prelude.{◌≡◌};
 ghost use Rattle.std.specs.List.{list_all};
 ghost use Rattle.call_engine.specs.Plain as spec;
 
-use body_vm::{Action, Body, Operand};
 use call_script::{HostAct, Script, Settings};
 use sqlite_items::Items;
-
-fn is_sum(action: &Action) -> bool
-    ensures { result ≡ spec.is_sum action.now }
-{
-    match action {
-        Action::Sum(register, _) => *register == 0,
-        _ => false,
-    }
-}
-
-fn gives_first(action: &Action) -> bool
-    ensures { result ≡ spec.gives_first action.now }
-{
-    match action {
-        Action::Return(Operand::Reg(register)) => *register == 0,
-        _ => false,
-    }
-}
-
-fn are_plain(actions: &[Action]) -> bool
-    ensures { result ≡ spec.are_plain actions.now }
-{
-    match actions {
-        [] => true,
-        [sum, give] => is_sum(sum) && gives_first(give),
-        _ => false,
-    }
-}
-
-fn are_plain_bodies(bodies: &[Body]) -> bool
-    ensures { result ≡ spec.are_plain_bodies bodies.now }
-{
-    bodies.iter().all(|body| are_plain(body.actions.as_slice()))
-}
 
 fn is_call(act: &HostAct) -> bool
     ensures { result ≡ spec.is_call act.now }
@@ -69,13 +34,11 @@ fn has_no_workers(settings: Settings) -> bool
     settings.tworkers == 0 && settings.uworkers == 0
 }
 
-/// Whether the engine runs a script: calls by one thread, of functions whose bodies give the sum of a block's bytes,
-/// or nothing.
+/// Whether the engine runs a script: calls by one thread.
 pub(crate) fn is_plain(script: &Script) -> bool
     ensures { result ≡ spec.is_plain script.now }
 {
     has_no_workers(script.settings)
         && script.racers.as_slice().is_empty()
         && are_plain_threads(script.threads.as_slice())
-        && are_plain_bodies(script.bodies.as_slice())
 }

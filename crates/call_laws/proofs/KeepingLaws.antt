@@ -24,58 +24,11 @@ use Rattle.call_machine.specs.Context.{Context, context_in_ecall}
 use Rattle.call_machine.specs.Ecall.{Ocalls, OcallOutcome, answer_of, Finished, Answered, after_records, interpret, actions_of}
 use Rattle.call_laws.specs.Copying.{AreCopiedIn}
 use Rattle.call_laws.specs.Answering.{IsAnsweredRun}
+use Rattle.call_machine.specs.Bodies.{KeepLengths}
+use Rattle.call_machine.proofs.BlockLengths.{keep_same, keep_then, keep_more, changed_keeps, new_keeps, overlay_length}
 use Rattle.call_machine.specs.Sound.{FitPasses, AreSoundActions, IsSoundBody}
-use Rattle.call_laws.proofs.Lengths.{block_length, KeepLengths, FitArguments, OcallsKeepLengths}
+use Rattle.call_laws.proofs.Lengths.{FitArguments, OcallsKeepLengths}
 use Rattle.call_laws.proofs.RunParts.{IsTwoRuns, two_runs, ret_run, IsMappedRun, mapped_run}
-
-pub keep_same : (blocks : List (Option (List ℕ))) → KeepLengths blocks blocks
-keep_same [] = tt
-keep_same (x ∷ blocks) = (refl, keep_same blocks)
-
-pub keep_then : (xs ys zs : List (Option (List ℕ))) → KeepLengths xs ys → KeepLengths ys zs → KeepLengths xs zs
-keep_then [] ys zs p q = tt
-keep_then (x ∷ xs) [] zs p q = absurd p
-keep_then (x ∷ xs) (y ∷ ys) [] p q = absurd q
-keep_then (x ∷ xs) (y ∷ ys) (z ∷ zs) p q = (q.0 ∙ p.0, keep_then xs ys zs p.1 q.1)
-
-keep_more : (xs ys : List (Option (List ℕ))) → KeepLengths xs (xs ++ ys)
-keep_more [] ys = tt
-keep_more (x ∷ xs) ys = (refl, keep_more xs ys)
-
--- a block of the same length in one place
-pub keep_set : (xs ys : List (Option (List ℕ))) (k : ℕ) (now : Option (List ℕ)) → KeepLengths xs ys
-    → block_length now ≡ block_length (unwrap_or (slice_get ys k) None) → KeepLengths xs (slice_set ys k now)
-keep_set [] ys k now h e = tt
-keep_set (x ∷ xs) [] k now h e = absurd h
-keep_set (x ∷ xs) (y ∷ ys) zero now h e = (e ∙ h.0, h.1)
-keep_set (x ∷ xs) (y ∷ ys) (suc k) now h e = (h.0, keep_set xs ys k now h.1 e)
-
--- a block in a place behind them
-keep_behind : (xs ys : List (Option (List ℕ))) (k : ℕ) (now : Option (List ℕ)) → KeepLengths xs ys → length xs ≤ k → KeepLengths xs (slice_set ys k now)
-keep_behind [] ys k now h le = tt
-keep_behind (x ∷ xs) [] k now h le = absurd h
-keep_behind (x ∷ xs) (y ∷ ys) zero now h le = absurd (omega (arith, le))
-keep_behind (x ∷ xs) (y ∷ ys) (suc k) now h le = (h.0, keep_behind xs ys k now h.1 (omega (arith, le)))
-
-pub change_length : (change : List ℕ → List ℕ) → ((bytes : List ℕ) → length (change bytes) ≡ length bytes) → (b : Option (List ℕ)) → block_length (option_map change b) ≡ block_length b
-change_length change same None = refl
-change_length change same (Some bytes) = ap (λ n. Some n) (same bytes)
-
-overlay_length : (these those : List ℕ) → length (overlay these those) ≡ length these
-overlay_length these those = grind (arith, length-append, length-take, length-drop)
-
-module _ (first : List (Option (List ℕ))) (s : State) (kept : KeepLengths first s.blocks) where
-  changed_keeps : (place : ℕ) (change : List ℕ → List ℕ) → ((bytes : List ℕ) → length (change bytes) ≡ length bytes) → KeepLengths first (with_block s place change).blocks
-  changed_keeps place change same =
-      keep_set first s.blocks place (option_map change (unwrap_or (slice_get s.blocks place) None)) kept (change_length change same (unwrap_or (slice_get s.blocks place) None))
-
-  new_keeps : (place n : ℕ) → length first ≤ place → KeepLengths first (with_new_block s place n).blocks
-  new_keeps place n le = by_room (nat_le (rounded_size n) s.room)
-    where
-      by_room : (fits : Bool) → KeepLengths first (if fits then record s { blocks = slice_set s.blocks place (Some (replicate n 0)); room = s.room - rounded_size n }
-          else record s { blocks = slice_set s.blocks place None }).blocks
-      by_room true = keep_behind first s.blocks place (Some (replicate n 0)) kept le
-      by_room false = keep_behind first s.blocks place None kept le
 
 fit_passed : (s : State) (params : List Param) (args : List Pass) → FitPasses params args → FitArguments params (map (passed_argument s) args)
 fit_passed s [] [] h = tt

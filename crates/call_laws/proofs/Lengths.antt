@@ -1,5 +1,5 @@
 -- Which OCALLs leave the copies of parameters as long as they were.
-use Rattle.std.proofs.Common.{ℕ, ◌≡◌, true, false, List, [], ◌∷◌, length, map, Option, Some, option_map, slice_get}
+use Rattle.std.proofs.Common.{ℕ, ◌≡◌, true, false, List, [], ◌∷◌, map, Option, Some, slice_get}
 use Rattle.edl_interface.specs.declared.Param.{Param}
 use Rattle.edl_interface.specs.declared.Function.{Function}
 use Rattle.edl_interface.specs.Parameters.{marshalled, is_marshalled}
@@ -8,18 +8,9 @@ use Rattle.word_port.specs.Interaction.{IsRun}
 use Rattle.enclave_memory.specs.Arguments.{Passed, by_number, by_place, argument_of, places_in}
 use Rattle.ocall_frames.specs.Frames.{blocks_after}
 use Rattle.call_machine.specs.declared.Machine.{Machine}
+use Rattle.call_machine.specs.Bodies.{KeepLengths}
 use Rattle.call_machine.specs.Context.{Context}
 use Rattle.call_machine.specs.Ecall.{Ocalls, OcallOutcome}
-
--- the length of a block that is not null
-abbrev pub block_length : Option (List ℕ) → Option ℕ
-block_length block = option_map (λ bytes. length bytes) block
-
--- each of these blocks has one in its place that is as long, or null where it is null
-abbrev pub KeepLengths : List (Option (List ℕ)) → List (Option (List ℕ)) → Type 0
-KeepLengths [] later = Unit {0}
-KeepLengths (block ∷ blocks) [] = ⊥
-KeepLengths (block ∷ blocks) (now ∷ later) = (block_length now ≡ block_length block) × KeepLengths blocks later
 
 -- a block is handed over exactly where the parameter is marshalled
 abbrev pub FitArguments : List Param → List Passed → Type 0

@@ -25,11 +25,12 @@ use Rattle.call_machine.specs.Context.{Context}
 use Rattle.call_machine.specs.Result.{is_success}
 use Rattle.call_machine.specs.Ecall.{OcallOutcome}
 use Rattle.call_machine.specs.Ocall.{Handlers, HostSide, OcallDone, ocall_rows, ocall_frame, host_run, handler_context, no_reply, answer_loads, unrefused_ocall, ocall_or_refusal, ocall_outcome, ocall_by}
-use Rattle.call_laws.proofs.Lengths.{block_length, KeepLengths, FitArguments, OcallsKeepLengths}
+use Rattle.call_machine.specs.Bodies.{block_length, KeepLengths}
+use Rattle.call_laws.proofs.Lengths.{FitArguments, OcallsKeepLengths}
 use Rattle.call_laws.specs.Transfers.{loads_of}
 use Rattle.call_laws.proofs.RunParts.{IsTwoRuns, two_runs, ret_run, IsMappedRun, mapped_run, IsPlacedRun, placed_run, IsAllowedRun, allowed_run}
 use Rattle.call_laws.proofs.TransferLaws.{loads_run}
-use Rattle.call_laws.proofs.KeepingLaws.{keep_same, keep_set, change_length}
+use Rattle.call_machine.proofs.BlockLengths.{keep_same, keep_set, change_length}
 
 -- what was loaded is as long as the buffers, and nothing is of a buffer with no bytes
 abbrev AreLoaded : List Buffer → List (Option (List ℕ)) → Type 0

@@ -21,7 +21,7 @@ use Rattle.call_machine.specs.Ecall.{Ocalls, Answered, shape_of}
 use Rattle.call_laws.specs.Transfers.{AreStores}
 use Rattle.call_laws.specs.Copying.{IsCopiedIn, AreCopiedIn}
 use Rattle.call_laws.specs.Answering.{AreStoredIf, ArePutBack, IsAnsweredRun}
-use Rattle.call_laws.proofs.Lengths.{KeepLengths}
+use Rattle.call_machine.specs.Bodies.{KeepLengths}
 use Rattle.call_laws.specs.Within.{IsWordIn, IsInParam, IsInAnswer}
 use Rattle.call_laws.proofs.RunParts.{row_fails}
 

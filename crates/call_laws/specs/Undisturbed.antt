@@ -9,6 +9,8 @@ use Rattle.word_port.specs.Events.{Event, steps_of}
 use Rattle.word_port.specs.Interaction.{IsRun}
 use Rattle.word_port.specs.Accesses.{word_at}
 use Rattle.word_port.specs.History.{IsLegal, history_of, words_in_the_end}
+use Rattle.body_vm.specs.declared.Action.{Action}
+use Rattle.body_vm.specs.declared.Action.TheVariants.{Cload, Cswap, Cadd, Ccas, Ocall}
 use Rattle.body_vm.specs.Execution.{Execution, returned}
 use Rattle.call_copy.specs.Copies.{checked_bytes, bytes_back}
 use Rattle.call_machine.specs.declared.Machine.{Machine}
@@ -90,6 +92,19 @@ pub record IsUndisturbedRun (m : Machine) (ocalls : Ocalls) (cx : Context) (ordi
 abbrev pub AsksNothing : Execution → Type 0
 AsksNothing (returned value blocks) = Unit {0}
 AsksNothing _ = ⊥
+
+-- neither a step on a cell nor an OCALL
+abbrev pub IsQuietAction : Action → Type 0
+IsQuietAction (Cload r cell) = ⊥
+IsQuietAction (Cswap r cell v) = ⊥
+IsQuietAction (Cadd r cell v) = ⊥
+IsQuietAction (Ccas r cell v w) = ⊥
+IsQuietAction (Ocall ret status ordinal args) = ⊥
+IsQuietAction _ = Unit {0}
+
+abbrev pub AreQuietActions : List Action → Type 0
+AreQuietActions [] = Unit {0}
+AreQuietActions (action ∷ actions) = IsQuietAction action × AreQuietActions actions
 
 -- the body asks for nothing, whatever it is given
 abbrev pub IsQuiet : Machine → ℕ → Type 0

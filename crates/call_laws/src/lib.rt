@@ -7,12 +7,11 @@ ghost use Rattle.word_port.specs.Events.{Event};
 ghost use Rattle.word_port.specs.Interaction.{IsRun};
 ghost use Rattle.call_machine.specs.declared.Machine.{Machine};
 ghost use Rattle.call_machine.specs.Context.{Context};
-ghost use Rattle.call_machine.specs.Plain.{IsPlainMachine};
-ghost use Rattle.call_machine.specs.Ecall.{Ocalls, Answered, entered};
+ghost use Rattle.call_machine.specs.Ecall.{Ocalls, Answered, actions_of, entered};
 ghost use Rattle.call_laws.specs.Answering.{IsAnsweredRun};
 ghost use Rattle.call_laws.specs.Examples.{Examples};
 ghost use Rattle.call_laws.specs.Refusing.{IsRefusedRun};
-ghost use Rattle.call_laws.specs.Undisturbed.{AreLegal, IsUndisturbedRun, IsQuiet, IsDirectCall};
+ghost use Rattle.call_laws.specs.Undisturbed.{AreLegal, IsUndisturbedRun, AreQuietActions, IsQuiet, IsDirectCall};
 
 /// An answered entry loads its frame once, then each `in` parameter that has a block once, then runs its body,
 /// and then stores its return and each `out` parameter that has a block. Every address and every length is of the
@@ -48,9 +47,9 @@ pub fn no_races_law()
         → IsDirectCall m cx ordinal address words events }
 {}
 
-/// The bodies of a machine that the engine runs ask for nothing.
+/// A body with no step on a cell and no OCALL among its actions asks for nothing.
 pub fn quiet_bodies_law()
-    ensures { (m : Machine) (ordinal : ℕ) → IsPlainMachine m → IsQuiet m ordinal }
+    ensures { (m : Machine) (ordinal : ℕ) → AreQuietActions (actions_of m ordinal) → IsQuiet m ordinal }
 {}
 
 /// A small machine and runs of its ECALL, as they are computed.

@@ -20,11 +20,13 @@ use Rattle.word_port.specs.Runs.{Leads, Makes, StopsFull}
 use Rattle.word_port.proofs.Laws.{and_then-assoc, and_then-ret, leads_nothing, leads_on, leads_then, full_on, full_first}
 use Rattle.enclave_memory.specs.declared.Block.{Block}
 use Rattle.enclave_memory.specs.Memory.{Memory, taken_by, room_of}
-use Rattle.enclave_memory.proofs.Blocks.{taken_by-cons, taken_by-append, pushed_block, push_keeps}
+use Rattle.enclave_memory.proofs.Blocks.{taken_by-cons, taken_by-append}
+use Rattle.body_vm.specs.Places.{blocks_in, IsHeld}
 use Rattle.call_machine.specs.Refusal.{field_rows}
 use Rattle.call_machine.specs.Result.{and_then_ok, go_on_if_ok}
 use Rattle.call_machine.specs.Ecall.{Copies, copies_in, with_first}
-use Rattle.call_machine.specs.Entry.{IsPlaced, copy_of, HasBlock, HasBlocks, IsPushed, IsCopied, HasGrown, AreCopied}
+use Rattle.call_machine.specs.Entry.{IsPlaced, copy_of, IsPushed, IsCopied, HasGrown, AreBehind, AreCopied}
+use Rattle.call_machine.proofs.HeldBlocks.{number_on, held_more, blocks_more, behind_more}
 use Rattle.call_machine.proofs.CopyResults.{room_after, copies_after, copies_in-cons}
 use std.Path.{fun_ext}
 
@@ -139,36 +141,6 @@ left-cons f frame done room p rest =
     ∙ and_then-assoc (copy_of f frame room p) (go_on_if_ok (copies_after f frame room rest)) (λ r. ret (with_before done r))
     ∙ ap (λ g. and_then (copy_of f frame room p) g) (fun_ext (go_on_left f frame done room rest))
 
--- how an arena stands to one that a block was pushed on, or none
-block_kept : (before after : Memory) (block other : Option Block) (bytes theirs : Option (List ℕ)) → IsPushed before after block bytes → HasBlock before other theirs → HasBlock after other theirs
-block_kept before after None other None theirs p h = subst (λ m. HasBlock m other theirs) (sym p) h
-block_kept before after (Some block) None (Some bytes) None p h = tt
-block_kept before after (Some block) (Some other) (Some bytes) (Some theirs) p h = (h.0, push_keeps before after block other bytes theirs h.0 p h.1)
-block_kept before after (Some block) (Some other) (Some bytes) None p h = absurd h
-block_kept before after (Some block) None (Some bytes) (Some theirs) p h = absurd h
-block_kept before after None other (Some bytes) theirs p h = absurd p
-block_kept before after (Some block) other None theirs p h = absurd p
-
-blocks_kept : (before after : Memory) (block : Option Block) (bytes : Option (List ℕ)) (others : List (Option Block)) (theirs : List (Option (List ℕ)))
-    → IsPushed before after block bytes → HasBlocks before others theirs → HasBlocks after others theirs
-blocks_kept before after block bytes [] [] p h = tt
-blocks_kept before after block bytes (x ∷ others) (y ∷ theirs) p h = (block_kept before after block x bytes y p h.0, blocks_kept before after block bytes others theirs p h.1)
-blocks_kept before after block bytes [] (y ∷ theirs) p h = absurd h
-blocks_kept before after block bytes (x ∷ others) [] p h = absurd h
-
-block_new : (before after : Memory) (block : Option Block) (bytes : Option (List ℕ)) → IsPushed before after block bytes → HasBlock after block bytes
-block_new before after None None p = tt
-block_new before after (Some block) (Some bytes) p = (length before.blocks, pushed_block before after block bytes p)
-block_new before after None (Some bytes) p = absurd p
-block_new before after (Some block) None p = absurd p
-
-blocks_more : (m : Memory) (blocks : List (Option Block)) (bytes : List (Option (List ℕ))) (block : Option Block) (one : Option (List ℕ))
-    → HasBlocks m blocks bytes → HasBlock m block one → HasBlocks m (blocks ++ block ∷ []) (bytes ++ one ∷ [])
-blocks_more m [] [] block one h b = (b, tt)
-blocks_more m (x ∷ blocks) (y ∷ bytes) block one h b = (h.0, blocks_more m blocks bytes block one h.1 b)
-blocks_more m [] (y ∷ bytes) block one h b = absurd h
-blocks_more m (x ∷ blocks) [] block one h b = absurd h
-
 room_pushed : (before after : Memory) (block : Option Block) (bytes : Option (List ℕ)) → IsPushed before after block bytes → room_of after ≡ room_after (room_of before) bytes
 room_pushed before after None None p = ap (λ m. room_of m) p
 room_pushed before after (Some block) (Some bytes) p =
@@ -194,16 +166,18 @@ grown_more before between after (Some block) None g p = absurd p
 
 -- some copies are made, and those of these parameters are left
 pub record IsCopying (f : Function) (frame : List ℕ) (before now : Memory) (old port : PortState) (blocks : List (Option Block)) (rest : List Param) : Type 0 where
-  pub bytes : List (Option (List ℕ))
-  pub have : HasBlocks now blocks bytes
+  pub numbers : List (Option ℕ)
+  pub held : IsHeld now blocks numbers
+  pub behind : AreBehind (length before.blocks) numbers
   pub grown : HasGrown before now
-  pub leads : Leads (copies_in f frame (room_of before) (marshalled f)) old port (copies_left f frame bytes (room_of now) rest)
+  pub leads : Leads (copies_in f frame (room_of before) (marshalled f)) old port (copies_left f frame (blocks_in now numbers) (room_of now) rest)
 
 -- none is made
 pub copying_none : (f : Function) (frame : List ℕ) (m : Memory) (port : PortState) → IsCopying f frame m m port port [] (marshalled f)
 copying_none f frame m port = record {
-  bytes = [];
-  have = tt;
+  numbers = [];
+  held = record { numbered = tt; apart = tt };
+  behind = λ n lt. tt;
   grown = not_grown m;
   leads = subst (λ t. Leads (copies_in f frame (room_of m) (marshalled f)) port port t) (sym (all_left f frame (room_of m) (marshalled f)))
       (leads_nothing (copies_in f frame (room_of m) (marshalled f)) port);
@@ -217,22 +191,28 @@ module _ (f : Function) (frame : List ℕ) (before now : Memory) (old port : Por
   abbrev the_copy : Interaction (Result (Option (List ℕ)) Status)
   the_copy = copy_of f frame (room_of now) p
 
+  abbrev copied : List (Option (List ℕ))
+  copied = blocks_in now so_far.numbers
+
   abbrev the_rest : Result (Option (List ℕ)) Status → Interaction (Result Copies Status)
-  the_rest = go_on_if_ok (next_left f frame so_far.bytes (room_of now) rest)
+  the_rest = go_on_if_ok (next_left f frame copied (room_of now) rest)
 
   leads_here : Leads the_copies old port (and_then the_copy the_rest)
-  leads_here = subst (λ t. Leads the_copies old port t) (left-cons f frame so_far.bytes (room_of now) p rest) so_far.leads
+  leads_here = subst (λ t. Leads the_copies old port t) (left-cons f frame copied (room_of now) p rest) so_far.leads
 
   -- one more is made
   pub copying_more : (after : Memory) (new : PortState) (block : Option Block) → IsCopied f frame p now after port new block
       → IsCopying f frame before after old new (blocks ++ block ∷ []) rest
   copying_more after new block c = record {
-    bytes = so_far.bytes ++ c.bytes ∷ [];
-    have = blocks_more after blocks so_far.bytes block c.bytes (blocks_kept now after block c.bytes blocks so_far.bytes c.pushed so_far.have) (block_new now after block c.bytes c.pushed);
+    numbers = so_far.numbers ++ number_on now block ∷ [];
+    held = held_more before now after blocks so_far.numbers block c.bytes so_far.held c.pushed;
+    behind = behind_more before now after blocks so_far.numbers block c.bytes so_far.held c.pushed so_far.grown so_far.behind;
     grown = grown_more before now after block c.bytes so_far.grown c.pushed;
-    leads = subst (λ n. Leads the_copies old new (copies_left f frame (so_far.bytes ++ c.bytes ∷ []) n rest)) (sym (room_pushed now after block c.bytes c.pushed))
-        (leads_on the_copies (and_then the_copy the_rest) (next_left f frame so_far.bytes (room_of now) rest c.bytes) old port new leads_here
-        (leads_then the_copy the_rest (next_left f frame so_far.bytes (room_of now) rest c.bytes) port new new (Ok c.bytes) c.made (leads_nothing (next_left f frame so_far.bytes (room_of now) rest c.bytes) new)));
+    leads =
+        subst (λ l. Leads the_copies old new (copies_left f frame l (room_of after) rest)) (sym (blocks_more before now after blocks so_far.numbers block c.bytes so_far.held c.pushed))
+        (subst (λ n. Leads the_copies old new (copies_left f frame (copied ++ c.bytes ∷ []) n rest)) (sym (room_pushed now after block c.bytes c.pushed))
+        (leads_on the_copies (and_then the_copy the_rest) (next_left f frame copied (room_of now) rest c.bytes) old port new leads_here
+        (leads_then the_copy the_rest (next_left f frame copied (room_of now) rest c.bytes) port new new (Ok c.bytes) c.made (leads_nothing (next_left f frame copied (room_of now) rest c.bytes) new))));
   }
 
   -- one is refused
@@ -249,8 +229,10 @@ module _ (f : Function) (frame : List ℕ) (before now : Memory) (old port : Por
 pub copying_all : (f : Function) (frame : List ℕ) (before now : Memory) (old port : PortState) (blocks : List (Option Block)) (rest : List Param)
     → rest ≡ [] → IsCopying f frame before now old port blocks rest → AreCopied f frame before now old port blocks
 copying_all f frame before now old port blocks rest none c = record {
-  bytes = c.bytes;
-  have = c.have;
+  numbers = c.numbers;
+  held = c.held;
+  behind = c.behind;
   made = subst (λ t. Leads (copies_in f frame (room_of before) (marshalled f)) old port t)
-      (ap (λ l. copies_left f frame c.bytes (room_of now) l) none ∙ ap {B = Interaction (Result Copies Status)} (λ (l : List (Option (List ℕ))). ret (Ok (record { blocks = l; room = room_of now }))) (append-nil c.bytes)) c.leads;
+      (ap (λ l. copies_left f frame (blocks_in now c.numbers) (room_of now) l) none
+      ∙ ap {B = Interaction (Result Copies Status)} (λ (l : List (Option (List ℕ))). ret (Ok (record { blocks = l; room = room_of now }))) (append-nil (blocks_in now c.numbers))) c.leads;
 }

@@ -133,16 +133,16 @@ one_results f frame room p = by_pointer (address_in frame p == 0) refl
     by_pointer true e = tt
     by_pointer false e = by_length (length_in f frame p == 0) refl e
 
--- the copies of these parameters, where none is refused
+-- the copies of these parameters and no more, where none is refused
 abbrev pub AreChecked : Function → List ℕ → List Param → Result Copies Status → Type 0
-AreChecked f frame params (Ok copies) = AreCopiesOf f frame params copies.blocks
+AreChecked f frame params (Ok copies) = AreCopiesOf f frame params copies.blocks × (length copies.blocks ≡ length params)
 AreChecked f frame params (Err status) = Unit {0}
 
 with_one : (f : Function) (frame : List ℕ) (p : Param) (rest : List Param) (block : Option (List ℕ)) (copied : Result Copies Status)
     → IsOne f frame p (Ok block) → AreChecked f frame rest copied → AreChecked f frame (p ∷ rest) (with_first block copied)
 with_one f frame p rest block (Err status) one others = tt
-with_one f frame p rest None (Ok copies) one others = others
-with_one f frame p rest (Some bytes) (Ok copies) one others = (one, others)
+with_one f frame p rest None (Ok copies) one others = (others.0, ap (λ n. suc n) others.1)
+with_one f frame p rest (Some bytes) (Ok copies) one others = ((one, others.0), ap (λ n. suc n) others.1)
 
 then_others : (f : Function) (frame : List ℕ) (room : ℕ) (p : Param) (rest : List Param) (copied : Result (Option (List ℕ)) Status)
     → ((left : ℕ) → AllResults (AreChecked f frame rest) (copies_in f frame left rest)) → IsOne f frame p copied
@@ -153,7 +153,7 @@ then_others f frame room p rest (Ok block) others one =
     (others (room_after room block)) (λ copied checked. with_one f frame p rest block copied one checked)
 
 pub copies_results : (f : Function) (frame : List ℕ) (room : ℕ) (params : List Param) → AllResults (AreChecked f frame params) (copies_in f frame room params)
-copies_results f frame room [] = tt
+copies_results f frame room [] = (tt, refl)
 copies_results f frame room (p ∷ rest) =
     subst (λ t. AllResults (AreChecked f frame (p ∷ rest)) t) (sym (copies_in-cons f frame room p rest))
     (results_then (IsOne f frame p) (AreChecked f frame (p ∷ rest)) (copy_of f frame room p) (go_on_if_ok (copies_after f frame room rest)) (one_results f frame room p)

@@ -1,10 +1,14 @@
 pub mod ActLaws
-pub mod SummedBodies
+pub mod BlockLengths
+pub mod BodyRange
+pub mod BodyRuns
+pub mod CarriedOut
 pub mod CopiesBack
 pub mod CopiesIn
 pub mod CopyResults
 pub mod EcallRecord
 pub mod FrameBlock
+pub mod HeldBlocks
 pub mod HostCalls
 pub mod HostFrames
 pub mod OneReport

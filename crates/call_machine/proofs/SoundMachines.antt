@@ -1,36 +1,49 @@
--- A machine that the engine runs is sound: its bodies give the sum of a block's bytes, or 0.
-use Rattle.std.proofs.Common.{ℕ, zero, suc, ◌≡◌, ◌⊎◌, inl, inr, true, false, List, [], ◌∷◌, length, unwrap_or, option_map, slice_get, All, refl, sym, subst}
+-- A machine that the engine runs is sound.
+use Rattle.std.proofs.Common.{ℕ, ◌≡◌, true, false, List, [], ◌∷◌, length, unwrap_or, option_map, Option, Some, None, All, sym, ◌∙◌, subst, ap}
+use Rattle.std.specs.List.{AllZip}
 use Rattle.std.proofs.lemmas.List.Elements.{All-nil, All-weaker}
+use Rattle.edl_interface.specs.declared.Param.{Param}
 use Rattle.edl_interface.specs.declared.Function.{Function}
 use Rattle.edl_interface.specs.declared.Interface.{Interface}
 use Rattle.edl_interface.specs.Parameters.{marshalled}
 use Rattle.edl_interface.specs.Runnable.{IsRunnableFunction}
 use Rattle.body_vm.specs.declared.Action.{Action}
+use Rattle.body_vm.specs.declared.Action.TheVariants.{Temp, Ocall}
 use Rattle.body_vm.specs.declared.Body.{Body}
-use Rattle.call_machine.specs.PlainScript.{ArePlainBodies, sum_actions}
+use Rattle.body_vm.specs.declared.Pass.{Pass}
+use Rattle.body_vm.specs.declared.Pass.TheVariants.{Value, Bytes}
+use Rattle.call_script.specs.Sound.{IsPassAt, IsSoundAction as IsSoundHere, AreSoundActions as AreSoundHere, temporary_count}
 use Rattle.call_machine.specs.declared.Machine.{Machine}
-use Rattle.call_machine.specs.Ecall.{actions_of}
 use Rattle.call_machine.specs.Plain.{IsPlainFunction, IsPlainMachine}
-use Rattle.call_machine.specs.Sound.{AreSoundActions, IsSoundMachine}
+use Rattle.call_machine.specs.Sound.{FitPasses, IsSoundAction, AreSoundActions, IsSoundBody, IsSoundMachine}
+use Rattle.call_machine.proofs.BodyRange.{HasBody, body_at}
 
--- none, or those that give the sum of a block's bytes
-abbrev pub IsSum : List Action → Type 0
-IsSum actions = (actions ≡ []) ⊎ ((place : ℕ) × (actions ≡ sum_actions place))
+module _ (i : Interface) (count : ℕ) (f : Function) (temporaries : ℕ) where
+  passes_fit : (params : List Param) (args : List Pass) → AllZip (IsPassAt i count f temporaries) params args → FitPasses params args
+  passes_fit [] [] h = tt
+  passes_fit [] (a ∷ args) h = h
+  passes_fit (p ∷ params) [] h = h
+  passes_fit (p ∷ params) (Value v ∷ args) h = (h.0.0, passes_fit params args h.1)
+  passes_fit (p ∷ params) (Bytes None ∷ args) h = (h.0, passes_fit params args h.1)
+  passes_fit (p ∷ params) (Bytes (Some b) ∷ args) h = (h.0.0, passes_fit params args h.1)
 
-sum_at : (fs : List Function) (bodies : List Body) (ordinal : ℕ) → ArePlainBodies fs bodies → IsSum (unwrap_or (option_map (λ (b : Body). b.actions) (slice_get bodies ordinal)) [])
-sum_at [] [] ordinal are = inl refl
-sum_at [] (b ∷ bodies) ordinal are = absurd are
-sum_at (f ∷ fs) [] ordinal are = absurd are
-sum_at (f ∷ fs) (b ∷ bodies) zero are = elim are.0 [ inl e ↦ inl e | inr p ↦ inr (p.0, p.2) ]
-sum_at (f ∷ fs) (b ∷ bodies) (suc n) are = sum_at fs bodies n are.1
+  sound_action : (left : ℕ) (a : Action) → IsSoundHere i count f temporaries left a → IsSoundAction i (length (marshalled f)) a
+  sound_action left (Temp b n) h = h.0.0
+  sound_action left (Ocall ret status ordinal args) h = λ g e.
+      let some : ◌≡◌ {A = Option Function} (Some h.2.function) (Some g) = sym h.2.found ∙ e in
+      subst (λ (x : Function). FitPasses x.params args) (ap (λ o. unwrap_or o g) some) (passes_fit h.2.function.params args h.2.fits)
+  sound_action left a h = tt
 
--- a body of such a machine
-pub sum_body : (m : Machine) (ordinal : ℕ) → IsPlainMachine m → IsSum (actions_of m ordinal)
-sum_body m ordinal plain = sum_at m.interface.ecalls m.script.bodies ordinal plain.script.bodies
+  pub sound_actions : (actions : List Action) → AreSoundHere i count f temporaries actions → AreSoundActions i (length (marshalled f)) actions
+  sound_actions [] h = tt
+  sound_actions (a ∷ actions) h = (sound_action (length actions) a h.0, sound_actions actions h.1)
 
-sound_sum : (interface : Interface) (count : ℕ) (actions : List Action) → IsSum actions → AreSoundActions interface count actions
-sound_sum interface count actions (inl e) = rw e tt
-sound_sum interface count actions (inr (place, e)) = rw e (tt, (tt, tt))
+-- each body of the machine has its temporary blocks behind those of its parameters
+sound_body : (m : Machine) (ordinal : ℕ) → IsPlainMachine m → IsSoundBody m ordinal
+sound_body m ordinal plain = λ f found.
+    let its : HasBody m.interface m.script.settings.cells f m.script.bodies ordinal = body_at m.interface m.script.settings.cells m.interface.ecalls m.script.bodies ordinal f plain.script.bodies found in
+    subst (λ (b : Option Body). AreSoundActions m.interface (length (marshalled f)) (unwrap_or (option_map (λ (x : Body). x.actions) b) [])) (sym its.there)
+    (sound_actions m.interface m.script.settings.cells f (temporary_count its.body) its.body.actions its.sound.actions)
 
 pub plain_sound : (m : Machine) → IsPlainMachine m → IsSoundMachine m
 plain_sound m plain = record {
@@ -39,5 +52,5 @@ plain_sound m plain = record {
     ocalls = subst (λ fs. All (IsRunnableFunction false) fs) (sym plain.interface.no_ocalls) (All-nil (IsRunnableFunction false));
   };
   stack = plain.script.settings.stack_fits;
-  bodies = λ ordinal f found. sound_sum m.interface (length (marshalled f)) (actions_of m ordinal) (sum_body m ordinal plain);
+  bodies = λ ordinal. sound_body m ordinal plain;
 }

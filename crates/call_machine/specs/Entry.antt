@@ -1,5 +1,5 @@
 -- How the engine's entry of an ECALL stands to its behaviour: blocks of the arena for lists of bytes, and steps of the port for its runs.
-use Rattle.std.specs.Prelude.{ℕ, ◌≡◌, ◌<◌, ◌^◌, ◌==◌, ◌⊎◌, if◌then◌else◌, true, false, List, [], ◌∷◌, ◌++◌, length, sum, Option, Some, None, unwrap_or, slice_get, Result, Ok, Err, IsTrue, All}
+use Rattle.std.specs.Prelude.{ℕ, ◌≡◌, ◌<◌, ◌^◌, ◌==◌, ◌⊎◌, if◌then◌else◌, true, false, List, [], ◌∷◌, ◌++◌, length, Option, Some, None, Result, Ok, Err, IsTrue, All}
 use Rattle.sgx_base.specs.Bytes.{is_divisible}
 use Rattle.sgx_base.specs.Ranges.{is_mapped}
 use Rattle.sgx_base.specs.declared.Status.{Status}
@@ -19,15 +19,14 @@ use Rattle.word_port.specs.Accesses.{loads}
 use Rattle.word_port.specs.Runs.{Makes, Runs, StopsAt, StopsFull}
 use Rattle.enclave_memory.specs.declared.Block.{Block}
 use Rattle.enclave_memory.specs.Memory.{Memory, IsBlock, IsPush, room_of}
-use Rattle.body_vm.specs.declared.Action.{Action}
-use Rattle.body_vm.specs.declared.Action.TheVariants.{Sum}
+use Rattle.body_vm.specs.Places.{blocks_in, IsAbsent, IsHeld}
 use Rattle.call_copy.specs.Copies.{copy_in, copy_out}
 use Rattle.call_report.specs.declared.CallRecord.{CallRecord}
 use Rattle.call_machine.specs.declared.Machine.{Machine}
 use Rattle.call_machine.specs.Context.{Context}
 use Rattle.call_machine.specs.declared.entry.Entered.{Entered}
 use Rattle.call_machine.specs.declared.entry.Entered.TheVariants.{Answered as answered, Refused}
-use Rattle.call_machine.specs.Ecall.{Answered, Finished, Ocalls, finished, shape_of, copies_in, entered, loaded_entry}
+use Rattle.call_machine.specs.Ecall.{Answered, Ocalls, shape_of, copies_in, entered, loaded_entry}
 
 -- an answered entry whose answer begins at a place of the log, and in which no call was made
 abbrev pub answered_at : ℕ → Answered
@@ -133,11 +132,16 @@ pub record HasGrown (before after : Memory) : Type 0 where
   pub pushed : List (List ℕ)
   pub grown : after ≡ record before { blocks = before.blocks ++ pushed }
 
--- the marshalled parameters were copied in, as these blocks
+-- none of these is one of the first numbers, so many
+abbrev pub AreBehind : ℕ → List (Option ℕ) → Type 0
+AreBehind count numbers = (n : ℕ) → n < count → IsAbsent n numbers
+
+-- the marshalled parameters were copied in, as these blocks behind those before
 pub record AreCopied (f : Function) (frame : List ℕ) (before after : Memory) (old new : PortState) (blocks : List (Option Block)) : Type 0 where
-  pub bytes : List (Option (List ℕ))
-  pub have : HasBlocks after blocks bytes
-  pub made : Makes (copies_in f frame (room_of before) (marshalled f)) old new (Ok (record { blocks = bytes; room = room_of after }))
+  pub numbers : List (Option ℕ)
+  pub held : IsHeld after blocks numbers
+  pub behind : AreBehind (length before.blocks) numbers
+  pub made : Makes (copies_in f frame (room_of before) (marshalled f)) old new (Ok (record { blocks = blocks_in after numbers; room = room_of after }))
 
 -- a copy that is not null is as long as its parameter says, in whole elements
 pub record IsCopyOf (f : Function) (frame : List ℕ) (p : Param) (bytes : List ℕ) : Type 0 where
@@ -146,9 +150,9 @@ pub record IsCopyOf (f : Function) (frame : List ℕ) (p : Param) (bytes : List 
   pub length_is : length bytes ≡ length_in f frame p
   pub whole : is_divisible (length bytes) (shape_of p.class).unit ≡ true
 
--- the copies are those of these parameters, one by one
+-- the first copies are those of these parameters, one by one
 abbrev pub AreCopiesOf : Function → List ℕ → List Param → List (Option (List ℕ)) → Type 0
-AreCopiesOf f frame [] [] = Unit {0}
+AreCopiesOf f frame [] copies = Unit {0}
 AreCopiesOf f frame (p ∷ params) (None ∷ copies) = AreCopiesOf f frame params copies
 AreCopiesOf f frame (p ∷ params) (Some bytes ∷ copies) = IsCopyOf f frame p bytes × AreCopiesOf f frame params copies
 AreCopiesOf f frame _ _ = ⊥
@@ -168,25 +172,3 @@ IsBack host frame p (Some bytes) = FitsBack host frame p bytes
 abbrev pub copy_back : List ℕ → Param → Option (List ℕ) → Interaction (Unit {0})
 copy_back frame p None = ret tt
 copy_back frame p (Some bytes) = if is_out p.class then copy_out (shape_of p.class) (address_in frame p) bytes else ret tt
-
--- the place of the block whose bytes a body sums up, where it does
-abbrev pub summed_place : List Action → Option ℕ
-summed_place (Sum register place ∷ rest) = Some place
-summed_place _ = None
-
--- the bytes of a block, none where it is null
-abbrev pub bytes_of : Option (List ℕ) → List ℕ
-bytes_of block = unwrap_or block []
-
--- the sum of the bytes of the block at a place, 0 where it is null
-abbrev pub sum_at : List (Option (List ℕ)) → Option ℕ → ℕ
-sum_at blocks None = 0
-sum_at blocks (Some place) = sum (bytes_of (unwrap_or (slice_get blocks place) None))
-
--- the value of a body that gives the sum of a block's bytes, or 0
-abbrev pub sum_value : List Action → List (Option (List ℕ)) → ℕ
-sum_value actions blocks = sum_at blocks (summed_place actions)
-
--- such a body leaves its blocks as they are
-abbrev pub summed : List Action → List (Option (List ℕ)) → Finished
-summed actions blocks = finished (sum_value actions blocks) blocks

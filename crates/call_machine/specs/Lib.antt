@@ -1,4 +1,5 @@
 pub mod Acts
+pub mod Bodies
 pub mod Calls
 pub mod Context
 pub mod Ecall

@@ -1,5 +1,5 @@
--- The machines that the engine runs: an interface of public ECALLs, of every class that a run passes, and a script of calls with bodies
--- that give the sum of a block's bytes, or none.
+-- The machines that the engine runs: an interface of public ECALLs, of every class that a run passes, and a script of calls with sound
+-- bodies.
 use Rattle.std.specs.Prelude.{◌≡◌, ◌≤◌, true, false, [], length, All}
 use Rattle.edl_interface.specs.declared.Function.{Function}
 use Rattle.edl_interface.specs.declared.Interface.{Interface}

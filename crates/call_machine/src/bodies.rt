@@ -1,55 +1,89 @@
-//! Bodies over the blocks of an ECALL: the sum of one block's bytes, or none.
+//! The bodies of ECALLs, carried out over the blocks of their parameters.
 
-ghost use Rattle.std.specs.Prelude.{ℕ, List, ◌≡◌, ◌≤◌, length, sum, Option};
-ghost use Rattle.call_machine.specs.Entry.{HasBlock, HasBlocks, bytes_of, summed_place as place_summed, sum_value};
+ghost use Rattle.std.specs.Prelude.{ℕ, List, ◌≡◌, ◌≤◌, ◌+◌, ◌++◌, length, map, replicate, count_by, slice_get, All, Option, Some, None, IfOk, IfErr};
+ghost use Rattle.arrayvec.specs.ArrayVec.{array_vec_len};
+ghost use Rattle.edl_interface.specs.Parameters.{marshalled, value_in, IsWordSized};
+ghost use Rattle.word_port.specs.declared.RunFull.TheVariants.{Steps};
+ghost use Rattle.body_vm.specs.Places.{IsHeld};
+ghost use Rattle.call_machine.specs.Bodies.{BodyRan, BodyStops};
+ghost use Rattle.call_machine.specs.Ecall.{is_temp};
+ghost use Rattle.call_machine.specs.Plain.{IsPlainMachine};
+ghost use Rattle.call_machine.specs.Tcs.{IsPortOf};
 
-use body_vm::{Action, Body};
-use enclave_memory::{Arena, Block};
+use crate::Machine;
+use arrayvec::ArrayVec;
+use body_run::{Pause, run_on};
+use body_vm::{Action, Blocks, Body, Regs, Values};
+use edl_interface::Function;
+use enclave_memory::Arena;
+use word_port::{RunFull, WordPort};
 
-/// The sum of bytes, of which there are few enough.
-fn sum_of(bytes: &[u8]) -> u64
-    requires { length bytes.now ≤ 65536 }
-    ensures { result ≡ sum bytes.now }
+/// The values of a function's parameters, each as a number of 64 bits.
+fn values_of(function: &Function, fields: &[u8]) -> Values
+    requires words { All (λ p. IsWordSized p.class) function.now.params }
+    requires few { length function.now.params ≤ 64 }
+    ensures { result.items ≡ map (value_in fields.now) function.now.params }
 {
-    let mut total = 0;
-    for byte in bytes {
-        total += u64::from(*byte);
+    let mut values = ArrayVec::new();
+    for param in function.params.as_slice() {
+        values.push(param.value(fields));
     }
-    total
+    values
 }
 
-/// The sum of the bytes of a block, 0 where it is null.
-fn block_sum(arena: &Arena, block: Option<Block>) -> u64
-    requires { (bytes : Option (List ℕ)) × HasBlock arena.now block bytes }
-    ensures { (bytes : Option (List ℕ)) → HasBlock arena.now block bytes → result ≡ sum (bytes_of bytes) }
+/// Whether an action makes a temporary block.
+fn is_temporary(action: &Action) -> bool
+    ensures { result ≡ is_temp action.now }
 {
-    let Some(block) = block else {
-        return 0;
-    };
-    sum_of(arena.bytes(block))
+    matches!(action, Action::Temp(..))
 }
 
-/// The place of the block whose bytes a body sums up, where it does.
-fn summed_place(body: &Body) -> Option<u32>
-    ensures { result ≡ place_summed body.now.actions }
+/// Puts null behind the blocks for each temporary block of a body.
+fn add_temporaries(blocks: &mut Blocks, body: &Body)
+    requires { array_vec_len blocks.old + count_by is_temp body.now.actions ≤ 80 }
+    ensures { blocks.new.items ≡ blocks.old.items ++ replicate (count_by is_temp body.now.actions) None }
 {
-    match body.actions.get(0) {
-        Some(Action::Sum(_, place)) => Some(*place),
-        _ => None,
+    for action in body.actions.as_slice() {
+        if is_temporary(action) {
+            blocks.push(None);
+        }
     }
 }
 
-/// What a body returns over its blocks.
-pub(crate) fn run_body(body: &Body, arena: &Arena, blocks: &[Option<Block>]) -> u64
-    requires { (bytes : List (Option (List ℕ))) × HasBlocks arena.now blocks.now bytes }
-    ensures { (bytes : List (Option (List ℕ))) → HasBlocks arena.now blocks.now bytes
-        → result ≡ sum_value body.now.actions bytes }
+/// Carries out the body of an ECALL over the blocks of its parameters, and gives its number.
+pub(crate) fn run_body<P: WordPort>(
+    port: &mut P,
+    machine: &Machine,
+    ordinal: u32,
+    function: &Function,
+    fields: &[u8],
+    blocks: &mut Blocks,
+    arena: &mut Arena,
+) -> Result<u64, RunFull>
+    requires machine { IsPlainMachine machine.now }
+    requires found { slice_get machine.now.interface.ecalls ordinal ≡ Some function.now }
+    requires port { IsPortOf machine.now (P.state port.old) }
+    requires count { array_vec_len blocks.old ≡ length (marshalled function.now) }
+    requires held { (numbers : List (Option ℕ)) × IsHeld arena.old blocks.old.items numbers }
+    ensures ok { (numbers : List (Option ℕ)) → IsHeld arena.old blocks.old.items numbers
+        → IfOk result (BodyRan machine.now ordinal function.now fields.now numbers arena.old arena.new
+        (P.state port.old) (P.state port.new) blocks.new.items) }
+    ensures full { (numbers : List (Option ℕ)) → IsHeld arena.old blocks.old.items numbers
+        → IfErr result (λ full. (full ≡ Steps) × BodyStops machine.now ordinal function.now fields.now numbers arena.old
+        (P.state port.old) (P.state port.new)) }
 {
-    let Some(place) = summed_place(body) else {
-        return 0;
+    let Some(body) = machine.script.bodies.get(ordinal as usize) else {
+        unreachable!();
     };
-    let Some(block) = blocks.get(place as usize) else {
-        return 0;
+    let values = values_of(function, fields);
+    add_temporaries(blocks, body);
+    let mut regs = Regs {
+        next: 0,
+        regs: [0; 8],
     };
-    block_sum(arena, *block)
+    let first_cell = machine.script.settings.host;
+    match run_on(port, first_cell, body, &mut regs, &values, blocks, arena)? {
+        Pause::Done(value) => Ok(value),
+        Pause::Ocall { .. } => unreachable!(),
+    }
 }

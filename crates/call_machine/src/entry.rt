@@ -119,18 +119,22 @@ fn copy_and_answer<P: WordPort>(
         call.entry.ordinal call.entry.frame call.entry.function.now fields.now (P.state port.old) (P.state port.new)) }
     ensures grown { OnOk result (HasGrown arena.old arena.new) }
 {
-    let copies = match copy_params(port, call.function, fields, arena) {
-        Ok(copies) => copies,
+    let mut blocks = match copy_params(port, call.function, fields, arena) {
+        Ok(blocks) => blocks,
         Err(CopyStop::Refused(status)) => return Ok(Entered::Refused(status)),
         Err(CopyStop::Full(full)) => return Err(full),
     };
-    let Some(body) = call.machine.script.bodies.get(call.ordinal as usize) else {
-        unreachable!();
-    };
-    let blocks = copies.as_slice();
-    let value = run_body(body, arena, blocks);
+    let value = run_body(
+        port,
+        call.machine,
+        call.ordinal,
+        call.function,
+        fields,
+        &mut blocks,
+        arena,
+    )?;
     let turn = port.log().len() as u32;
-    put_answer(call, port, fields, value, arena, blocks)?;
+    put_answer(call, port, fields, value, arena, blocks.as_slice())?;
     Ok(Entered::Answered { turn })
 }
 

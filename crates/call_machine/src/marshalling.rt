@@ -10,14 +10,12 @@ ghost use Rattle.call_machine.specs.Entry.{IsPlaced, IsCopied, AreCopied, AreCop
 ghost use Rattle.call_machine.specs.Refusal.{AreAllowed};
 
 use arrayvec::ArrayVec;
+use body_vm::Blocks;
 use call_copy::{CopyStop, Shape, copy_in, copy_out};
 use edl_interface::{Class, Function, Param};
 use enclave_memory::{Arena, Block};
 use sgx_base::Passing;
 use word_port::{RunFull, WordPort};
-
-/// The blocks of the marshalled parameters in order, None where one is null.
-pub(crate) type Blocks = ArrayVec<Option<Block>, 64>;
 
 /// How a parameter is copied.
 fn shape_of(class: &Class) -> Shape

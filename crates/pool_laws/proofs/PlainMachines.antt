@@ -1,6 +1,7 @@
 -- The machines that the engine runs are such machines.
-use Rattle.std.proofs.Common.{ℕ, ◌≡◌, inl, inr, List, [], ◌∷◌, length, Some, slice_get, All, refl, ap, sym, ◌∙◌, subst, arith}
-use Rattle.std.specs.Prelude.{unwrap_or}
+use Rattle.std.proofs.Common.{ℕ, zero, suc, ◌≡◌, List, [], ◌∷◌, length, Some, slice_get, All, refl, ap, sym, ◌∙◌, subst, arith}
+use Rattle.std.specs.Prelude.{unwrap_or, option_map}
+use Rattle.std.specs.List.{AllZip}
 use Rattle.std.proofs.lemmas.List.Elements.{All-head, All-tail}
 use Rattle.edl_interface.specs.declared.Class.{Class}
 use Rattle.edl_interface.specs.declared.Class.TheVariants.{Plain as by_value, UserCheck, Buffer, Text, Fixed, Foreign}
@@ -9,20 +10,41 @@ use Rattle.edl_interface.specs.declared.Function.{Function}
 use Rattle.edl_interface.specs.declared.Interface.{Interface}
 use Rattle.edl_interface.specs.Parameters.{field_size}
 use Rattle.body_vm.specs.declared.Action.{Action}
+use Rattle.body_vm.specs.declared.Action.TheVariants.{Cload, Cswap, Cadd, Ccas}
+use Rattle.body_vm.specs.declared.Body.{Body}
 use Rattle.call_script.specs.declared.CallArg.{CallArg}
 use Rattle.call_script.specs.declared.CallArg.TheVariants.{At, Null, Number, Bytes}
 use Rattle.call_script.specs.declared.HostAct.{HostAct}
+use Rattle.call_script.specs.Sound.{IsSoundAction, AreSoundActions, IsSoundBody, temporary_count}
 use Rattle.call_machine.specs.PlainScript.{IsArgument, AreArguments, IsPlainCall}
 use Rattle.call_machine.specs.declared.Machine.{Machine}
-use Rattle.call_machine.specs.Ecall.{actions_of}
 use Rattle.call_machine.specs.Plain.{IsPlainMachine}
 use Rattle.call_machine.specs.Reported.{acts_at}
-use Rattle.call_machine.proofs.SoundMachines.{IsSum, sum_body, plain_sound}
-use Rattle.pool_laws.specs.Machines.{AreOnCells, FillsField, FillFields, IsFittingAct, AreFitting, IsBoundedMachine, HasStackFor}
+use Rattle.call_machine.proofs.SoundMachines.{plain_sound}
+use Rattle.pool_laws.specs.Machines.{IsOnCells, AreOnCells, FillsField, FillFields, IsFittingAct, AreFitting, IsBoundedMachine, HasStackFor}
 
-sum_on_cells : (cells : ℕ) (actions : List Action) → IsSum actions → AreOnCells cells actions
-sum_on_cells cells actions (inl e) = rw e tt
-sum_on_cells cells actions (inr (place, e)) = rw e (tt, (tt, tt))
+module _ (i : Interface) (count : ℕ) (f : Function) (temporaries : ℕ) where
+  on_cells : (left : ℕ) (a : Action) → IsSoundAction i count f temporaries left a → IsOnCells count a
+  on_cells left (Cload r cell) h = h.1
+  on_cells left (Cswap r cell v) h = h.1
+  on_cells left (Cadd r cell v) h = h.1
+  on_cells left (Ccas r cell v w) h = h.1
+  on_cells left a h = tt
+
+  all_on_cells : (actions : List Action) → AreSoundActions i count f temporaries actions → AreOnCells count actions
+  all_on_cells [] h = tt
+  all_on_cells (a ∷ actions) h = (on_cells (length actions) a h.0, all_on_cells actions h.1)
+
+-- the body of an ordinal, or none
+body_on_cells : (i : Interface) (count : ℕ) (fs : List Function) (bodies : List Body) (ordinal : ℕ)
+    → AllZip (IsSoundBody i count) fs bodies
+    → AreOnCells count (unwrap_or (option_map (λ (b : Body). b.actions) (slice_get bodies ordinal)) [])
+body_on_cells i count [] [] ordinal are = tt
+body_on_cells i count [] (b ∷ bodies) ordinal are = absurd are
+body_on_cells i count (f ∷ fs) [] ordinal are = absurd are
+body_on_cells i count (f ∷ fs) (b ∷ bodies) zero are =
+    all_on_cells i count f (temporary_count b) b.actions are.0.actions
+body_on_cells i count (f ∷ fs) (b ∷ bodies) (suc n) are = body_on_cells i count fs bodies n are.1
 
 none_found : (fs : List Function) (ordinal : ℕ) (f : Function) → fs ≡ [] → slice_get fs ordinal ≡ Some f → ⊥
 none_found [] ordinal f e found = cc
@@ -72,7 +94,9 @@ module _ (m : Machine) (plain : IsPlainMachine m) where
         ecalls = omega (arith, ecalls);
         ocalls = (let no : length m.interface.ocalls ≡ 0 = ap (λ (fs : List Function). length fs) none in omega
             (arith, no));
-        cells = λ ordinal. sum_on_cells m.script.settings.cells (actions_of m ordinal) (sum_body m ordinal plain);
+        cells = λ ordinal.
+            body_on_cells m.interface m.script.settings.cells m.interface.ecalls m.script.bodies ordinal
+            plain.script.bodies;
         handlers = λ ordinal f found. absurd (none_found m.interface.ocalls ordinal f none found);
       }
 
