@@ -10,7 +10,7 @@ use Rattle.call_machine.specs.declared.Machine.{Machine}
 use Rattle.call_machine.specs.Reported.{IsReportOf, IsCutBy}
 use Rattle.call_engine.specs.declared.faults.PrepareFault.TheVariants as cause
 use Rattle.call_engine.specs.Prepared.{FilesGive, IsUnprepared}
-use Rattle.edl_reader.specs.Paths.{directories}
+use Rattle.command_line.specs.SearchPath.{directories}
 use Rattle.run_laws.specs.Reports.{IsProtectedReport}
 use Rattle.callrun.specs.declared.Ending.{Ending}
 use Rattle.callrun.specs.declared.Ending.TheVariants.{Usage, Edl, Script, Unread, Missing, Reported, Cut}

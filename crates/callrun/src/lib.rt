@@ -1,7 +1,7 @@
 //! The top call of the runner: from words and files to one text and a status.
 #![tactic(auto)]
 
-ghost use Rattle.std.specs.Prelude.{ℕ, List, false, ◌≡◌, IfOk, OnOk};
+ghost use Rattle.std.specs.Prelude.{ℕ, List, false, ◌≡◌, IfOk};
 ghost use Rattle.sgx_base.specs.Outcome.{OrMemory};
 ghost use Rattle.sgx_base.specs.Stores.{FilesState, AreOnlyRead};
 ghost use Rattle.call_engine.specs.Prepared.{IsUnprepared};
@@ -10,20 +10,14 @@ ghost use Rattle.callrun.specs.Endings.{Names, HasCause, EndsBy, Ends};
 ghost use Rattle.callrun.specs.Answers.{Answers, IsRunnable, NothingFailed};
 
 use call_engine::{PrepareFault, RunFault, prepare, run_machine};
-use edl_reader::directories_of;
+pub use command_line::MEMORY;
+use command_line::{directories_of, status_after};
 use sgx_base::{
-    Fault, Files, Name, Sink, SinkFault, Word, edl_line, missing_line, script_line, unread_line,
-    write_text,
+    Fault, Files, Name, Sink, Word, edl_line, missing_line, script_line, unread_line, write_text,
 };
 use sqlite_items::Items;
 use std::alloc::{AllocError, Global};
 use word_port::RunFull;
-
-/// The status where the sink refuses the text.
-const REFUSED: u8 = 5;
-
-/// The status where memory runs out.
-pub const MEMORY: u8 = 6;
 
 const USAGE: &[u8] = b"usage: sgx_callrun [--search-path P] FILE SCRIPT\n";
 
@@ -158,19 +152,6 @@ fn run_words<F: Files>(alloc: Global, words: &[Word], files: &mut F) -> Result<E
             run_named(alloc, files, paths.as_slice(), edl, script)
         }
         _ => Ok(Ending::Usage),
-    }
-}
-
-/// The status of a call whose text was written, or refused.
-fn status_after(status: u8, written: Result<(), SinkFault>) -> u8
-    ensures whole { OnOk written (result ≡ status) }
-    ensures failed { written ≡ Err SinkFault.Failed → result ≡ REFUSED }
-    ensures memory { written ≡ Err SinkFault.Memory → result ≡ MEMORY }
-{
-    match written {
-        Ok(()) => status,
-        Err(SinkFault::Failed) => REFUSED,
-        Err(SinkFault::Memory) => MEMORY,
     }
 }
 

@@ -44,7 +44,7 @@ by_writing name before after only = let same = only.read_faults in record { read
 
 by_stubs : (stubs : List Stub) (before after : FilesState) (result : Result (Unit {0}) FileFault) → Writes stubs before after result → Grow before after
 by_stubs stubs before after result (made.all_written files) = grow files
-by_stubs stubs before after result (made.write_next stub rest first middle last answer only is more) =
+by_stubs stubs before after result (made.write_next stub rest first middle last answer only is quiet more) =
     grow_later first middle last (by_writing stub.name first middle only) (by_stubs rest middle last answer more)
 by_stubs stubs before after result (made.refused stub rest first last fault only is) = by_writing stub.name first last only
 by_stubs stubs before after result (made.out_of_memory rest files) = grow files
@@ -91,7 +91,7 @@ has_failed _ = ⊥
 
 write_failed : (stubs : List Stub) (before after : FilesState) (result : Result (Unit {0}) FileFault) → Writes stubs before after result → has_failed result → WriteFailed before after
 write_failed stubs before after result (made.all_written files) h = absurd h
-write_failed stubs before after result (made.write_next stub rest first middle last answer only is more) h =
+write_failed stubs before after result (made.write_next stub rest first middle last answer only is quiet more) h =
     rose_later first.write_faults middle.write_faults last.write_faults only.write_faults (write_failed rest middle last answer more h)
 write_failed stubs before after result (made.refused stub rest first last write.Failed only is) h = is
 write_failed stubs before after result (made.refused stub rest first last write.Memory only is) h = absurd h

@@ -69,7 +69,7 @@ module _ (name : List ℕ) where
 
   by_stubs : (stubs : List Stub) (before after : FilesState) (result : Result (Unit {0}) FileFault) → AreOther stubs → Writes stubs before after result → Stays name before after
   by_stubs stubs before after result other (made.all_written files) = stays files
-  by_stubs stubs before after result other (made.write_next stub rest first middle last answer only is more) =
+  by_stubs stubs before after result other (made.write_next stub rest first middle last answer only is quiet more) =
       later first middle last (by_writing stub.name first middle other.0 only) (by_stubs rest middle last answer other.1 more)
   by_stubs stubs before after result other (made.refused stub rest first last fault only is) = by_writing stub.name first last other.0 only
   by_stubs stubs before after result other (made.out_of_memory rest files) = stays files

@@ -49,10 +49,10 @@ module _ (f : StubFile → Stub) (files : List StubFile) (i : ℕ) where
   -- the next one is written
   pub next_stub : (d : StubFile) (before middle after : FilesState) (result : Result (Unit {0}) FileFault) → i < length files → d ≡ get_or files i d
       → IsOnlyWritten (f d).name before middle → AreBoth (IsWritten (f d).name (f d).text) before middle
-      → Writes (map f (drop (i + 1) files)) middle after result → Writes (map f (drop i files)) before after result
-  next_stub d before middle after result lt is only w more =
+      → middle.write_faults ≡ before.write_faults → Writes (map f (drop (i + 1) files)) middle after result → Writes (map f (drop i files)) before after result
+  next_stub d before middle after result lt is only w quiet more =
       subst (λ (xs : List StubFile). Writes (map f xs) before after result) (sym (at_place files i d lt is))
-      (made.write_next (f d) (map f (drop (i + 1) files)) before middle after result only w more)
+      (made.write_next (f d) (map f (drop (i + 1) files)) before middle after result only w quiet more)
 
   -- it is not
   pub refused_stub : (d : StubFile) (before after : FilesState) (fault : FileFault) → i < length files → d ≡ get_or files i d

@@ -45,13 +45,13 @@ stubs_of c file g i = map (stub_of g i (options_of c file)) (stub_files c file)
 
 -- ---- the writing
 
--- Stubs are written in order, each whole, until a write is refused or memory runs out. Of the file of a refused write
--- nothing is told.
+-- Stubs are written in order, each whole and at once, until a write is refused or memory runs out. Of the file of a
+-- refused write nothing is told.
 pub data Writes : List Stub → FilesState → FilesState → Result (Unit {0}) FileFault → Type 0 where
   all_written : (files : FilesState) → Writes [] files files (Ok tt)
   write_next : (stub : Stub) (stubs : List Stub) (before middle after : FilesState) (result : Result (Unit {0}) FileFault)
       → IsOnlyWritten stub.name before middle → AreBoth (IsWritten stub.name stub.text) before middle
-      → Writes stubs middle after result → Writes (stub ∷ stubs) before after result
+      → middle.write_faults ≡ before.write_faults → Writes stubs middle after result → Writes (stub ∷ stubs) before after result
   refused : (stub : Stub) (stubs : List Stub) (before after : FilesState) (fault : FileFault)
       → IsOnlyWritten stub.name before after → IsWriteOf stub.name stub.text (Err fault) before after
       → Writes (stub ∷ stubs) before after (Err fault)

@@ -1,7 +1,7 @@
 //! The top call of the tool: from words and EDL files to stubs, one text and a status.
 #![tactic(auto)]
 
-ghost use Rattle.std.specs.Prelude.{◌≡◌, OnOk, Err};
+ghost use Rattle.std.specs.Prelude.{◌≡◌};
 ghost use Rattle.sgx_base.specs.Outcome.{OrMemory};
 ghost use Rattle.edger8r.specs.Answers.{Answers, AreOthersAsBefore, IsMakeable, NothingFailed};
 ghost use Rattle.edger8r.specs.Endings.{Ends};
@@ -12,15 +12,11 @@ mod writing;
 
 use crate::ending::{Ending, text_of};
 use crate::making::make_all;
-use sgx_base::{Files, Sink, SinkFault, Word, write_text};
+pub use command_line::MEMORY;
+use command_line::status_after;
+use sgx_base::{Files, Sink, Word, write_text};
 use std::alloc::Global;
 use tool_words::{Request, WordsFault, read_words};
-
-/// The status where the sink refuses the text.
-const REFUSED: u8 = 5;
-
-/// The status where memory runs out.
-pub const MEMORY: u8 = 6;
 
 /// Does what the words ask for.
 fn make_words<F: Files>(alloc: Global, words: &[Word], files: &mut F) -> Ending
@@ -33,19 +29,6 @@ fn make_words<F: Files>(alloc: Global, words: &[Word], files: &mut F) -> Ending
         }
         Err(WordsFault::Usage) => Ending::Usage,
         Err(WordsFault::Memory) => Ending::Memory,
-    }
-}
-
-/// The status of a call whose text was written, or refused.
-fn status_after(status: u8, written: Result<(), SinkFault>) -> u8
-    ensures whole { OnOk written (result ≡ status) }
-    ensures failed { written ≡ Err SinkFault.Failed → result ≡ REFUSED }
-    ensures memory { written ≡ Err SinkFault.Memory → result ≡ MEMORY }
-{
-    match written {
-        Ok(()) => status,
-        Err(SinkFault::Failed) => REFUSED,
-        Err(SinkFault::Memory) => MEMORY,
     }
 }
 

@@ -1,6 +1,6 @@
 //! The stubs of an interface, printed and written one after another.
 
-ghost use Rattle.std.specs.Prelude.{◌≡◌, IfOk, map};
+ghost use Rattle.std.specs.Prelude.{◌≡◌, IfOk, OnOk, map};
 ghost use Rattle.sgx_base.specs.Stores.{IsOnlyWritten, IsWriteOf};
 ghost use Rattle.bridge_program.specs.Tables.{bridges_of};
 ghost use Rattle.edl_interface.specs.Sound.{IsSound};
@@ -49,6 +49,7 @@ fn write_stub<F: Files>(
     ensures told { IsWriteOf stub.now.name
         (stub_text printed.now.gathered.now printed.now.interface.now printed.now.options.now stub.now.which)
         result (F.state files.old) (F.state files.new) }
+    ensures counted { OnOk result ((F.state files.new).write_faults ≡ (F.state files.old).write_faults) }
 {
     let Ok(text) = print_stub(
         alloc,

@@ -1,4 +1,3 @@
 pub mod Accepted
-pub mod Paths
 pub mod Sources
 pub mod Told

@@ -3,10 +3,8 @@
 
 mod faults;
 mod interfaces;
-mod paths;
 mod sources;
 
 pub use faults::SourceFault;
 pub use interfaces::interface_of;
-pub use paths::directories_of;
 pub use sources::read_edl;

@@ -2,7 +2,7 @@
 -- files.
 use Rattle.std.specs.Prelude.{Bool, true, false, List, [], ◌∷◌, Option, Some, None, codes}
 use Rattle.std.specs.Prelude.{if◌then◌else◌, find, option_and_then, option_map, unwrap_or}
-use Rattle.std.specs.List.{slice_split}
+use Rattle.command_line.specs.SearchPath.{directories}
 use Rattle.std.specs.Prelude.{◌==◌}
 use Rattle.std.specs.Str.{bytes_eq}
 use Rattle.clap.specs.Lexer.{usize_max}
@@ -65,10 +65,6 @@ is_typed None = false
 -- whether the words give the flag
 abbrev pub is_given : Text → List Row → Bool
 is_given name rows = is_typed (option_and_then (λ r. r.source) (find (λ r. bytes_eq r.id name) rows))
-
--- the directories of a search path, which colons part
-abbrev pub directories : Text → List Text
-directories = slice_split (λ byte. byte == 58)
 
 abbrev pub chosen : List Row → Choices
 chosen rows = record {

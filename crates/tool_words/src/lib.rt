@@ -2,6 +2,7 @@
 #![tactic(auto)]
 
 ghost use Rattle.std.specs.Prelude.{◌≡◌, [], map, IfOk, Some, None, Err, false, unwrap_or, option_map, codes};
+ghost use Rattle.command_line.specs.SearchPath.{directories};
 ghost use Rattle.clap.specs.Walk.{Row, rule_of, rows_of, first_of, all_of};
 ghost use Rattle.clap.specs.Matches.{found_of};
 ghost use Rattle.clap.specs.Simple.{app_of};
@@ -12,6 +13,7 @@ ghost use Rattle.tool_words.specs.Examples.{Examples};
 use clap::error::ErrorKind;
 use clap::parser::ValueSource;
 use clap::{Arg, ArgAction, ArgMatches, Command, Error};
+use command_line::directories_of;
 use sgx_base::Word;
 use sqlite_items::Items;
 use std::alloc::{AllocError, Global};
@@ -167,20 +169,9 @@ fn files_of(alloc: Global, matches: &ArgMatches<'_>) -> Result<Items<Word>, Allo
     }
 }
 
-/// The directories of a search path, which colons part.
-fn directories_of(alloc: Global, path: &str) -> Result<Items<Word>, AllocError>
-    ensures { IfOk result (λ paths. paths ≡ spec.directories path.now) }
-{
-    let mut directories = Items::new(alloc);
-    for directory in path.split(':') {
-        directories.push(Word::new(alloc, directory)?)?;
-    }
-    Ok(directories)
-}
-
 fn search_path_of(alloc: Global, path: Option<&str>) -> Result<Items<Word>, AllocError>
     ensures { IfOk result (λ paths.
-        paths ≡ unwrap_or (option_map spec.directories (option_map (λ p. p.now) path.entry)) []) }
+        paths ≡ unwrap_or (option_map directories (option_map (λ p. p.now) path.entry)) []) }
 {
     match path {
         Some(path) => directories_of(alloc, path),

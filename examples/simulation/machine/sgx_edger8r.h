@@ -14,6 +14,9 @@ typedef uint64_t sgx_enclave_id_t;
 #define SGX_ERROR_STACK_OVERRUN 0x1009
 sgx_status_t sgx_ecall(sgx_enclave_id_t eid, int ordinal, const void* ocall_table, void* frame);
 sgx_status_t sgx_ocall(unsigned ordinal, void* frame);
+/* no worker runs, so a switchless call goes the ordinary way */
+#define sgx_ecall_switchless sgx_ecall
+#define sgx_ocall_switchless sgx_ocall
 void* sgx_ocalloc(size_t size);
 void sgx_ocfree(void);
 int sgx_is_outside_enclave(const void* start, size_t size);

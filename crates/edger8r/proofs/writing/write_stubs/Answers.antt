@@ -9,7 +9,7 @@ loop-stub-preserved g c =
     λ after result more.
     c.loop-stub.invariant after result
     (next_stub f c.args.stubs.now c.loop-stub.stub-index c.stub-item.result
-    (g.F.Files.state c.loop-stub.files) (g.F.Files.state c.write_stub.new.files) after result c.loop-stub-test.true c.stub-item.is c.write_stub.ensures.kept c.in_default.ensures.told more)
+    (g.F.Files.state c.loop-stub.files) (g.F.Files.state c.write_stub.new.files) after result c.loop-stub-test.true c.stub-item.is c.write_stub.ensures.kept c.in_default.ensures.told c.in_default.ensures.counted more)
 
 pub returns-in-Err : goal.returns-in-Err
 returns-in-Err g c =

@@ -1,7 +1,7 @@
 //! The directories in which imported files are looked for.
 
 ghost use Rattle.std.specs.Prelude.{◌≡◌, IfOk};
-ghost use Rattle.edl_reader.specs.Paths.{directories};
+ghost use Rattle.command_line.specs.SearchPath.{directories};
 
 use sgx_base::Word;
 use sqlite_items::Items;

@@ -2,7 +2,7 @@ use Rattle.std.proofs.Common.{List, ℕ, [], ◌∷◌, ◌++◌, map, sym, ap, 
 use Rattle.std.proofs.lemmas.List.{map-append}
 use Rattle.std.proofs.lemmas.Iterator.Consumers.{YieldsList-at, YieldsList-end}
 use Rattle.std.proofs.lemmas.Iterator.Splits.{YieldsList-from_str_split}
-use Rattle.tool_words.proofs.directories_of.Goals as goal
+use Rattle.command_line.proofs.search_path.directories_of.Goals as goal
 
 pub loop-directory-preserved : goal.loop-directory-preserved
 loop-directory-preserved c =
