@@ -1,15 +1,14 @@
 -- Where all is well, all stubs are made unless memory runs out.
-use Rattle.std.proofs.Common.{ℕ, ◌≡◌, ◌≤◌, ◌+◌, ◌⊎◌, inl, inr, List, [], ◌∷◌, map, Option, Some, None, is_some, Result, Ok, Err, refl, sym, ap, ◌∙◌, subst, arith, true, false}
+use Rattle.std.proofs.Common.{ℕ, ◌≡◌, ◌≤◌, ◌⊎◌, inl, inr, List, Option, Some, None, is_some, Result, Ok, Err, refl, sym, ap, ◌∙◌, subst, arith, true, false}
 use Rattle.std.specs.Prelude.{IfSome}
 use Rattle.sgx_base.specs.Counts.{Rose}
 use Rattle.sgx_base.specs.Outcome.{OrMemory}
-use Rattle.sgx_base.specs.Stores.{Store, FilesState, AreOnlyRead, AreBoth, IsWritten, IsOnlyWritten, ReadFailed, WriteFailed}
+use Rattle.sgx_base.specs.Stores.{Store, FilesState, AreOnlyRead, IsWritten, IsOnlyWritten, ReadFailed, WriteFailed}
 use Rattle.sgx_base.specs.declared.Fault.{Fault}
 use Rattle.sgx_base.specs.declared.files.FileFault.{FileFault}
 use Rattle.sgx_base.specs.declared.files.FileFault.TheVariants as write
 use Rattle.edl_grammar.specs.declared.Gathered.{Gathered}
 use Rattle.edl_imports.specs.declared.faults.ImportFault.{ImportFault}
-use Rattle.edl_imports.specs.Gathering.{gathering}
 use Rattle.edl_interface.specs.declared.Interface.{Interface}
 use Rattle.edl_reader.specs.declared.faults.SourceFault.{SourceFault}
 use Rattle.edl_reader.specs.declared.faults.SourceFault.TheVariants as source
@@ -77,7 +76,7 @@ is_ok (Err e) = ⊥
 are_stored : (stubs : List Stub) (before after : FilesState) (result : Result (Unit {0}) FileFault) (store : Store) → Writes stubs before after result → before.contents ≡ Some store → is_ok result
     → (later : Store) × (after.contents ≡ Some later) × AreStored stubs store later
 are_stored stubs before after result store (made.all_written files) e ok = (store, e, refl)
-are_stored stubs before after result store (made.write_next stub rest first middle last answer only is more) e ok =
+are_stored stubs before after result store (made.write_next stub rest first middle last answer only is quiet more) e ok =
     let (m, t, w) = told (IsWritten stub.name stub.text) first.contents middle.contents store e only.told is in
     let (later, u, s) = are_stored rest middle last answer m more t ok in
     (later, u, (m, w, s))

@@ -1,9 +1,9 @@
 -- What is made of EDL files, a step at a time.
-use Rattle.std.proofs.Common.{ℕ, ◌≡◌, ◌+◌, ◌<◌, ◌≤◌, inl, inr, List, [], ◌∷◌, length, get_or, drop, map, Option, Some, None, Result, Ok, Err, true, false, refl, sym, ap, ◌∙◌, subst, arith}
+use Rattle.std.proofs.Common.{ℕ, ◌≡◌, ◌+◌, ◌<◌, ◌≤◌, inl, inr, List, ◌∷◌, length, get_or, drop, map, Option, Some, None, Result, Ok, Err, false, refl, sym, ap, ◌∙◌, subst, arith}
 use Rattle.std.specs.Prelude.{IfSome}
 use Rattle.std.proofs.lemmas.List.{drop_more, drop_all}
 use Rattle.sgx_base.specs.Outcome.{OrMemory}
-use Rattle.sgx_base.specs.Stores.{Store, FilesState, AreBoth, AreOnlyRead, AreOthersKept, IsOnlyWritten, IsWritten, IsWriteOf}
+use Rattle.sgx_base.specs.Stores.{Store, FilesState, AreBoth, AreOthersKept, IsOnlyWritten, IsWritten, IsWriteOf}
 use Rattle.sgx_base.specs.declared.files.FileFault.{FileFault}
 use Rattle.edl_grammar.specs.declared.Gathered.{Gathered}
 use Rattle.edl_interface.specs.declared.Interface.{Interface}
@@ -12,8 +12,6 @@ use Rattle.edl_reader.specs.declared.faults.SourceFault.{SourceFault}
 use Rattle.edl_reader.specs.declared.faults.SourceFault.TheVariants as source
 use Rattle.edl_reader.specs.Accepted.{IsAccepted, IsRefused}
 use Rattle.edl_reader.specs.Sources.{IsEdlFault}
-use Rattle.edl_imports.specs.Gathering.{name_at}
-use Rattle.sgx_base.specs.declared.Fault.{Fault}
 use Rattle.stub_printer.specs.declared.Options.{Options}
 use Rattle.tool_words.specs.declared.Choices.{Choices}
 use Rattle.stub_files.specs.declared.StubFile.{StubFile}

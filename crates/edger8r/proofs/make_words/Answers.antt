@@ -1,7 +1,4 @@
-use Rattle.std.proofs.Common.{List, ℕ, ◌≡◌, Some, Err, subst}
-use Rattle.tool_words.specs.declared.Request.TheVariants as request
-use Rattle.tool_words.specs.declared.WordsFault.{WordsFault}
-use Rattle.tool_words.specs.Words.{request_of}
+use Rattle.std.proofs.Common.{List, ℕ, subst}
 use Rattle.edger8r.specs.Made.{MakesAll}
 use Rattle.edger8r.specs.Endings.{faulty_words, helped, no_memory, making}
 use Rattle.edger8r.proofs.make_words.Goals as goal

@@ -1,4 +1,4 @@
-use Rattle.std.proofs.Common.{Err, List, ℕ, subst, sym, ◌∙◌}
+use Rattle.std.proofs.Common.{Err, List, ℕ, subst, sym}
 use Rattle.sgx_base.specs.Outcome.{OrMemory}
 use Rattle.edl_reader.specs.declared.faults.SourceFault.TheVariants.{Memory}
 use Rattle.edl_reader.specs.Sources.{GivesRoot, IsUngathered}
