@@ -1,12 +1,15 @@
 //! The summary of a run.
 #![tactic(auto)]
 
-ghost use Rattle.std.specs.Prelude.{◌≡◌, ◌≤◌, ◌<◌, ◌^◌, ◌==◌, ◌++◌, codes, decimal, length, filter, sum_by, IfOk, OnOk, string_bytes};
+mod runs;
+
+ghost use Rattle.std.specs.Prelude.{◌≡◌, ◌≤◌, length, filter, sum_by, IfOk, string_bytes};
 ghost use Rattle.sgx_base.specs.Bytes.{little_endian};
 ghost use Rattle.call_report.specs.Report.{put_bytes, written_bytes};
 ghost use Rattle.run_summary.specs.Summary as spec;
 
 use call_report::CallRecord;
+pub use runs::summarize;
 use std::alloc::{AllocError, Global};
 use word_port::Step;
 

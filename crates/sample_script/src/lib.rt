@@ -1,7 +1,8 @@
 //! The script of a sample.
 #![tactic(auto)]
 
-ghost use Rattle.std.specs.Prelude.{◌≡◌, ◌<◌, ◌≤◌, ◌^◌, ◌++◌, string_bytes, IfOk, OnOk};
+ghost use Rattle.std.specs.Prelude.{◌≡◌, ◌<◌, ◌≤◌, ◌^◌, ◌++◌, length, string_bytes, IfOk, OnOk};
+ghost use Rattle.sgx_base.specs.Stores.{max_file_size};
 ghost use Rattle.sample_script.specs.Sample as spec;
 
 use std::alloc::{AllocError, Global};
@@ -79,7 +80,8 @@ fn append_calls(alloc: Global, text: &mut Vec<u8>, calls: u32) -> Result<(), All
 /// buffers begin at eight places in turn, and their lengths are below 65, by the row of numbers of the C standard's
 /// example of `rand`.
 pub fn sample(alloc: Global, calls: u32) -> Result<Vec<u8>, AllocError>
-    ensures { IfOk result (λ text. text.items ≡ spec.sample calls) }
+    ensures text { IfOk result (λ text. text.items ≡ spec.sample calls) }
+    ensures short { calls ≤ 8000 → IfOk result (λ text. length text.items ≤ max_file_size) }
 {
     let mut text = first_lines(alloc)?;
     append_calls(alloc, &mut text, calls)?;
