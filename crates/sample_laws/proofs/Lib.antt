@@ -1,0 +1,6 @@
+mod CallRows
+mod Calls
+mod Head
+mod Placed
+mod Texts
+mod Words
