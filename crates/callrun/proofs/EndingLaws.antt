@@ -4,7 +4,7 @@ use Rattle.std.specs.Prelude.{if◌then◌else◌, codes}
 use Rattle.std.specs.Str.{bytes_eq}
 use Rattle.sgx_base.specs.Outcome.{OrMemory}
 use Rattle.sgx_base.specs.Sinks.{SinkState, SinkFailed, Wrote, WrotePart}
-use Rattle.sgx_base.specs.Stores.{Store, FilesState}
+use Rattle.sgx_base.specs.Stores.{Store, FilesState, ReadFailed}
 use Rattle.sgx_base.specs.declared.sink.SinkFault.{SinkFault}
 use Rattle.sgx_base.specs.declared.sink.SinkFault.TheVariants.{Failed, Memory}
 use Rattle.std.specs.declared.alloc.AllocError.{AllocError}
@@ -13,16 +13,19 @@ use Rattle.call_engine.specs.declared.faults.PrepareFault.{PrepareFault}
 use Rattle.call_engine.specs.declared.faults.PrepareFault.TheVariants.{Edl as of_edl, Script as of_script, NotFound}
 use Rattle.call_engine.specs.Prepared.{FilesGive, Prepares}
 use Rattle.callrun.specs.declared.Ending.{Ending}
-use Rattle.callrun.specs.declared.Ending.TheVariants.{Usage, Edl, Script, Unread, Missing, Reported, Cut}
+use Rattle.callrun.specs.declared.Ending.TheVariants.{Usage, Edl, Script, Unread, Missing, Done, Cut}
 use Rattle.edl_reader.specs.Paths.{directories}
-use Rattle.callrun.specs.Endings.{Names, named, names_of, HasCause, EndsBy, Ends, status_of, text_of}
-use Rattle.callrun.specs.Answers.{Answers, reported, usage, edl_fault, script_fault, unread, refused, out_of_memory, missing, full, IsRunnable, NothingFailed}
+use Rattle.callrun.specs.Endings.{Names, Task, Nothing, Run, Sample, named, task_of, task_of_two, sample_names, HasCause, HasSampleCause, EndsBy, Ends, status_of, text_of}
+use Rattle.callrun.specs.Samples.{texts, sample_files}
+use Rattle.callrun.specs.Told.{Telling, report, summary}
+use Rattle.sample_script.specs.Sample.{sample}
+use Rattle.callrun.specs.Answers.{Answers, done, usage, edl_fault, script_fault, unread, refused, out_of_memory, missing, full, RunsThrough, IsRunnable, by_files, by_sample, NothingFailed}
 
 -- ---- the answer where an ending's text was written, or a part of it
 
 written : (words : List (List ℕ)) (before after : FilesState) (old new : SinkState) (ending : Ending) → Ends words before after ending → Wrote (text_of ending) old new
     → Answers words before after old new (status_of ending)
-written words before after old new (Reported text) e w = reported text e w
+written words before after old new (Done text) e w = done text e w
 written words before after old new Usage e w = usage e w
 written words before after old new (Edl name fault) e w = edl_fault name fault e w
 written words before after old new (Script name line code) e w = script_fault name line code e w
@@ -46,41 +49,53 @@ answered words before after old new ending text (Err Memory) status result e t s
 
 -- ---- where nothing fails
 
-module _ (words : List (List ℕ)) (before after : FilesState) (r : IsRunnable words before) where
-  decided : (answer : Result Machine PrepareFault) → FilesGive false before r.names.paths r.names.edl r.names.script answer
-      → Prepares false r.store r.names.paths r.names.edl r.names.script answer
-  decided answer gives = subst (λ (contents : Option Store). IfSome contents (λ s. Prepares false s r.names.paths r.names.edl r.names.script answer)) r.told gives
+module _ (store : Store) (n : Names) (r : RunsThrough store n) (before after : FilesState) (told : before.contents ≡ Some store) where
+  decided : (answer : Result Machine PrepareFault) → FilesGive false before n.paths n.edl n.script answer → Prepares false store n.paths n.edl n.script answer
+  decided answer gives = subst (λ (contents : Option Store). IfSome contents (λ s. Prepares false s n.paths n.edl n.script answer)) told gives
 
   -- the files have no such fault
-  no_fault : (fault : PrepareFault) → FilesGive false before r.names.paths r.names.edl r.names.script (Err fault) → ⊥
+  no_fault : (fault : PrepareFault) → FilesGive false before n.paths n.edl n.script (Err fault) → ⊥
   no_fault fault gives = r.faultless fault (decided (Err fault) gives)
 
-  -- by the files of the names
-  done_by_files : (old new : SinkState) (ending : Ending) → NothingFailed before after old new → HasCause r.names before after ending → status_of ending ≡ 0
-  done_by_files old new Usage n h = absurd h
-  done_by_files old new (Edl name fault) n h = absurd (no_fault (of_edl name fault) h.1)
-  done_by_files old new (Script name line code) n h = absurd (no_fault (of_script line code) h.1)
-  done_by_files old new (Unread name) n h = absurd (n.read h.0)
-  done_by_files old new (Missing name) n h = absurd (no_fault (NotFound name) h.2)
-  done_by_files old new (Reported text) n h = refl
-  done_by_files old new (Cut limit) n h = absurd (r.uncut h.machine limit (decided (Ok h.machine) h.gives) h.cut)
+  done_by_files : (telling : Telling) (ending : Ending) → ¬ ReadFailed before after → HasCause telling n before after ending → status_of ending ≡ 0
+  done_by_files telling Usage read h = absurd h
+  done_by_files telling (Edl name fault) read h = absurd (no_fault (of_edl name fault) h.1)
+  done_by_files telling (Script name line code) read h = absurd (no_fault (of_script line code) h.1)
+  done_by_files telling (Unread name) read h = absurd (read h.0)
+  done_by_files telling (Missing name) read h = absurd (no_fault (NotFound name) h.2)
+  done_by_files telling (Done text) read h = refl
+  done_by_files telling (Cut limit) read h = absurd (r.uncut h.machine limit (decided (Ok h.machine) h.gives) h.cut)
 
-  -- by the words
-  done : (old new : SinkState) (ending : Ending) → NothingFailed before after old new → Ends words before after ending → status_of ending ≡ 0
-  done old new ending n e = done_by_files old new ending n (subst (λ (names : Option Names). EndsBy names before after ending) r.named e)
+-- no read of a sample's texts fails
+unfailing : (calls : ℕ) (after : FilesState) → after.read_faults ≡ 0 → ReadFailed (sample_files calls) after → ⊥
+unfailing calls after none (inl more) = omega (arith, none, more)
+unfailing calls after none (inr most) = omega (arith, none, most)
 
--- the answer is the report then, unless memory ran out
+sample_done : (calls : ℕ) (ending : Ending) → RunsThrough (texts (sample calls)) sample_names → HasSampleCause calls ending → status_of ending ≡ 0
+sample_done calls ending r h =
+    done_by_files (texts (sample calls)) sample_names r (sample_files calls) h.after refl summary ending (unfailing calls h.after h.unfailing) h.cause
+
+-- by the words
+all_done : (words : List (List ℕ)) (before after : FilesState) (old new : SinkState) (ending : Ending) → IsRunnable words before → NothingFailed before after old new → Ends words before after ending
+    → status_of ending ≡ 0
+all_done words before after old new ending (by_files n store task told r) nothing e =
+    done_by_files store n r before after told report ending nothing.read (subst (λ (t : Task). EndsBy t before after ending) task e)
+all_done words before after old new ending (by_sample calls task r) nothing e =
+    let same : (after ≡ before) × HasSampleCause calls ending = subst (λ (t : Task). EndsBy t before after ending) task e in
+    sample_done calls ending r same.1
+
+-- the answer is what is told of the run then, unless memory ran out
 pub complete : (words : List (List ℕ)) (before after : FilesState) (old new : SinkState) (status : ℕ) → Answers words before after old new status → IsRunnable words before → NothingFailed before after old new
     → OrMemory 6 (λ s. s ≡ 0) status
-complete words before after old new status (reported text e w) r n = inr refl
-complete words before after old new status (usage e w) r n = inr (done words before after r old new Usage n e)
-complete words before after old new status (edl_fault name fault e w) r n = inr (done words before after r old new (Edl name fault) n e)
-complete words before after old new status (script_fault name line code e w) r n = inr (done words before after r old new (Script name line code) n e)
-complete words before after old new status (unread name e w) r n = inr (done words before after r old new (Unread name) n e)
+complete words before after old new status (done text e w) r n = inr refl
+complete words before after old new status (usage e w) r n = inr (all_done words before after old new Usage r n e)
+complete words before after old new status (edl_fault name fault e w) r n = inr (all_done words before after old new (Edl name fault) r n e)
+complete words before after old new status (script_fault name line code e w) r n = inr (all_done words before after old new (Script name line code) r n e)
+complete words before after old new status (unread name e w) r n = inr (all_done words before after old new (Unread name) r n e)
 complete words before after old new status (refused part failed) r n = absurd (n.taken failed)
 complete words before after old new status (out_of_memory part) r n = inl refl
-complete words before after old new status (missing name e w) r n = inr (done words before after r old new (Missing name) n e)
-complete words before after old new status (full limit e w) r n = inr (done words before after r old new (Cut limit) n e)
+complete words before after old new status (missing name e w) r n = inr (all_done words before after old new (Missing name) r n e)
+complete words before after old new status (full limit e w) r n = inr (all_done words before after old new (Cut limit) r n e)
 
 -- ---- words at their places
 
@@ -103,26 +118,26 @@ four_words (w ∷ x ∷ y ∷ z ∷ []) a b c d p q r s least most =
     ∙ ap (λ (t : List ℕ). a ∷ b ∷ t ∷ z ∷ []) (sym three) ∙ ap (λ (t : List ℕ). a ∷ b ∷ c ∷ t ∷ []) (sym four)
 four_words (w ∷ x ∷ y ∷ z ∷ v ∷ rest) a b c d p q r s least most = absurd (omega arith)
 
--- words of another count name no files
-pub no_names : (words : List (List ℕ)) → (length words ≡ 2 → ⊥) → (length words ≡ 4 → ⊥) → names_of words ≡ None
-no_names [] two four = refl
-no_names (w ∷ []) two four = refl
-no_names (w ∷ x ∷ []) two four = absurd (two refl)
-no_names (w ∷ x ∷ y ∷ []) two four = refl
-no_names (w ∷ x ∷ y ∷ z ∷ []) two four = absurd (four refl)
-no_names (w ∷ x ∷ y ∷ z ∷ v ∷ rest) two four = refl
+-- words of another count ask for nothing
+pub no_task : (words : List (List ℕ)) → (length words ≡ 2 → ⊥) → (length words ≡ 4 → ⊥) → task_of words ≡ Nothing
+no_task [] two four = refl
+no_task (w ∷ []) two four = refl
+no_task (w ∷ x ∷ []) two four = absurd (two refl)
+no_task (w ∷ x ∷ y ∷ []) two four = refl
+no_task (w ∷ x ∷ y ∷ z ∷ []) two four = absurd (four refl)
+no_task (w ∷ x ∷ y ∷ z ∷ v ∷ rest) two four = refl
 
--- a call that ends by what two words name ends so by words that name the same
-pub ends_by : (words : List (List ℕ)) (names : Option Names) (before after : FilesState) (result : Result Ending AllocError) → names_of words ≡ names
-    → IfOk result (EndsBy names before after) → IfOk result (Ends words before after)
-ends_by words names before after result same h = subst (λ (n : Option Names). IfOk result (EndsBy n before after)) (sym same) h
+-- a call that ends by what it is to do ends so by words that ask for it
+pub ends_by : (words : List (List ℕ)) (task : Task) (before after : FilesState) (result : Result Ending AllocError) → task_of words ≡ task
+    → IfOk result (EndsBy task before after) → IfOk result (Ends words before after)
+ends_by words task before after result same h = subst (λ (t : Task). IfOk result (EndsBy t before after)) (sym same) h
 
--- the same where a search path stands before them
-pub names_by_path : (words : List (List ℕ)) (option path edl script : List ℕ) → words ≡ option ∷ path ∷ edl ∷ script ∷ [] → bytes_eq option (codes "--search-path") ≡ true
-    → names_of words ≡ named (directories path) edl script
-names_by_path words option path edl script four is = ap names_of four ∙ ap (λ (b : Bool). if b then named (directories path) edl script else None) is
+-- a search path stands before the names
+pub task_by_path : (words : List (List ℕ)) (option path edl script : List ℕ) → words ≡ option ∷ path ∷ edl ∷ script ∷ [] → bytes_eq option (codes "--search-path") ≡ true
+    → task_of words ≡ named (directories path) edl script
+task_by_path words option path edl script four is = ap task_of four ∙ ap (λ (b : Bool). if b then named (directories path) edl script else Nothing) is
 
 -- another option before them
-pub names_by_other : (words : List (List ℕ)) (option path edl script : List ℕ) → words ≡ option ∷ path ∷ edl ∷ script ∷ [] → bytes_eq option (codes "--search-path") ≡ false
-    → names_of words ≡ None
-names_by_other words option path edl script four is = ap names_of four ∙ ap (λ (b : Bool). if b then named (directories path) edl script else None) is
+pub task_by_other : (words : List (List ℕ)) (option path edl script : List ℕ) → words ≡ option ∷ path ∷ edl ∷ script ∷ [] → bytes_eq option (codes "--search-path") ≡ false
+    → task_of words ≡ Nothing
+task_by_other words option path edl script four is = ap task_of four ∙ ap (λ (b : Bool). if b then named (directories path) edl script else Nothing) is

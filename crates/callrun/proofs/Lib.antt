@@ -1,1 +1,3 @@
 pub mod EndingLaws
+mod SampleEndings
+mod ToldLaws

@@ -9,9 +9,11 @@ use Rattle.call_machine.specs.declared.Machine.{Machine}
 use Rattle.call_machine.specs.Reported.{IsCutBy}
 use Rattle.call_engine.specs.declared.faults.PrepareFault.{PrepareFault}
 use Rattle.call_engine.specs.Prepared.{Prepares}
+use Rattle.sample_script.specs.Sample.{sample}
 use Rattle.callrun.specs.declared.Ending.{Ending}
-use Rattle.callrun.specs.declared.Ending.TheVariants.{Usage, Edl, Script, Unread, Missing, Reported, Cut}
-use Rattle.callrun.specs.Endings.{Names, names_of, Ends, text_of, usage_line, full_line}
+use Rattle.callrun.specs.declared.Ending.TheVariants.{Usage, Edl, Script, Unread, Missing, Done, Cut}
+use Rattle.callrun.specs.Samples.{texts}
+use Rattle.callrun.specs.Endings.{Names, Task, Run, Sample, task_of, sample_names, Ends, text_of, usage_line, full_line}
 
 -- the call came to an ending, with its cause, and of the text of it a part was written
 pub record IsBroken (words : List (List ℕ)) (before after : FilesState) (old new : SinkState) : Type 0 where
@@ -21,7 +23,7 @@ pub record IsBroken (words : List (List ℕ)) (before after : FilesState) (old n
 
 -- what each status tells of the words, of the files before and after the call, and of the sink before and after it
 pub data Answers (words : List (List ℕ)) (before after : FilesState) (old new : SinkState) : ℕ → Type 0 where
-  reported : (text : List ℕ) → Ends words before after (Reported text) → Wrote text old new
+  done : (text : List ℕ) → Ends words before after (Done text) → Wrote text old new
       → Answers words before after old new 0
   usage : Ends words before after Usage → Wrote usage_line old new → Answers words before after old new 1
   edl_fault : (name : List ℕ) (fault : Fault) → Ends words before after (Edl name fault)
@@ -37,15 +39,17 @@ pub data Answers (words : List (List ℕ)) (before after : FilesState) (old new 
   full : (limit : RunFull) → Ends words before after (Cut limit) → Wrote full_line old new
       → Answers words before after old new 8
 
--- the words name files that are told, have no fault, and give a machine whose run no limit cuts
-pub record IsRunnable (words : List (List ℕ)) (files : FilesState) : Type 0 where
-  pub names : Names
-  pub named : names_of words ≡ Some names
-  pub store : Store
-  pub told : files.contents ≡ Some store
-  pub faultless : (fault : PrepareFault) → ¬ Prepares false store names.paths names.edl names.script (Err fault)
-  pub uncut : (m : Machine) (limit : RunFull) → Prepares false store names.paths names.edl names.script (Ok m)
-      → ¬ IsCutBy m limit
+-- what a store has under these names has no fault, and gives a machine whose run no limit cuts
+pub record RunsThrough (store : Store) (n : Names) : Type 0 where
+  pub faultless : (fault : PrepareFault) → ¬ Prepares false store n.paths n.edl n.script (Err fault)
+  pub uncut : (m : Machine) (limit : RunFull) → Prepares false store n.paths n.edl n.script (Ok m) → ¬ IsCutBy m limit
+
+-- the words ask for the run of files that are told and run through, or for a sample that does
+pub data IsRunnable (words : List (List ℕ)) (files : FilesState) : Type 0 where
+  by_files : (n : Names) (store : Store) → task_of words ≡ Run n → files.contents ≡ Some store → RunsThrough store n
+      → IsRunnable words files
+  by_sample : (calls : ℕ) → task_of words ≡ Sample calls → RunsThrough (texts (sample calls)) sample_names
+      → IsRunnable words files
 
 -- no read failed, and the sink took what was written
 pub record NothingFailed (before after : FilesState) (old new : SinkState) : Type 0 where

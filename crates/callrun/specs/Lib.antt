@@ -1,2 +1,4 @@
+pub mod Samples
+pub mod Told
 pub mod Endings
 pub mod Answers
