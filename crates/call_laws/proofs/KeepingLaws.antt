@@ -1,5 +1,5 @@
 -- A body leaves the copies of its parameters as long as they were.
-use Rattle.std.proofs.Common.{ℕ, zero, suc, ◌+◌, ◌-◌, ◌*◌, ◌%◌, ◌^◌, ◌≡◌, ◌≤◌, ◌==◌, Bool, true, false, if◌then◌else◌, nat_le, List, [], ◌∷◌, ◌++◌, length, map, replicate, Option, Some, None, option_map, slice_get, slice_index, slice_set, bit_and, bit_or, bit_xor, sum, refl, ap, ◌∙◌, subst, arith, length-append, length-take, length-drop, length-set}
+use Rattle.std.proofs.Common.{ℕ, zero, suc, ◌+◌, ◌-◌, ◌*◌, ◌%◌, ◌^◌, ◌≡◌, ◌==◌, if◌then◌else◌, List, [], ◌∷◌, length, map, replicate, Option, Some, None, option_map, slice_get, slice_index, slice_set, bit_and, bit_or, bit_xor, sum, refl, ap, subst, length-set}
 use Rattle.std.specs.Prelude.{unwrap_or}
 use Rattle.std.proofs.lemmas.List.{length-replicate}
 use Rattle.sgx_base.specs.Bytes.{rounded_size}

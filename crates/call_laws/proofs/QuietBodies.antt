@@ -1,5 +1,5 @@
 -- Bodies with no step on a cell and no OCALL ask for nothing.
-use Rattle.std.proofs.Common.{ℕ, zero, suc, ◌+◌, ◌-◌, ◌*◌, ◌%◌, ◌^◌, ◌==◌, if◌then◌else◌, List, [], ◌∷◌, length, replicate, Option, slice_index, slice_set, bit_and, bit_or, bit_xor, sum}
+use Rattle.std.proofs.Common.{ℕ, zero, suc, ◌+◌, ◌-◌, ◌*◌, ◌%◌, ◌^◌, ◌==◌, if◌then◌else◌, List, [], ◌∷◌, length, replicate, slice_index, slice_set, bit_and, bit_or, bit_xor, sum}
 use Rattle.body_vm.specs.declared.Action.{Action}
 use Rattle.body_vm.specs.declared.Action.TheVariants.{Set, Add, Sub, Mul, And, Or, Xor, Len, Sum, Get, Put, Fill, Copy, Temp, Cload, Cswap, Cadd, Ccas, Ocall, Skipz, Skipnz, Return}
 use Rattle.body_vm.specs.State.{State, operand, register, with_register, block, with_block, with_new_block, overlay}
