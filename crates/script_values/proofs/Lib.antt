@@ -4,4 +4,4 @@ pub mod FunctionLaws
 pub mod HexLaws
 pub mod NameLaws
 pub mod NumberLaws
-pub mod SettingLaws
+pub mod TableLaws

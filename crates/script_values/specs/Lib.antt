@@ -1,3 +1,3 @@
 pub mod Actions
 pub mod Calls
-pub mod Settings
+pub mod Functions

@@ -10,7 +10,7 @@ ghost use Rattle.script_values.specs.Calls as spec;
 use crate::actions::register_or_zero;
 use crate::body_names::BodyNames;
 use crate::calls::ocall_passes;
-use crate::functions::{named, ordinal_of};
+use crate::functions::NamedFunctions;
 use body_vm::{Action, Pass};
 use edl_interface::Function;
 use script_words::number_of;
@@ -54,7 +54,7 @@ fn passes_for(
 /// The action of a line `ocall R Q NAME(ARG, ..)`.
 pub fn ocall(
     alloc: Global,
-    ocalls: &[Function],
+    ocalls: &NamedFunctions,
     names: &BodyNames,
     words: &OcallWords,
 ) -> Result<Action, AllocError>
@@ -63,11 +63,11 @@ pub fn ocall(
         (line.Ocall words.now.ret.now words.now.status.now words.now.name.now (map (λ w. w.now) words.now.args.now))
         action) }
 {
-    let args = passes_for(alloc, names, named(ocalls, words.name), words.args)?;
+    let args = passes_for(alloc, names, ocalls.named(words.name), words.args)?;
     Ok(Action::Ocall {
         ret: register_or_zero(words.ret),
         status: register_or_zero(words.status),
-        ordinal: ordinal_of(ocalls, words.name),
+        ordinal: ocalls.ordinal_of(words.name),
         args,
     })
 }

@@ -2,19 +2,13 @@
 
 ghost use Rattle.std.specs.Prelude.{◌≡◌, ◌++◌, false, map, zip, unwrap_or, None, Some, IfOk, OnOk};
 ghost use Rattle.std.specs.List.{list_any};
-ghost use Rattle.call_script.specs.Arguments.{is_place_argument_out, is_frame_argument, argument_of};
+ghost use Rattle.call_script.specs.Arguments.{is_place_argument_out, argument_of};
 ghost use Rattle.call_script.specs.BodyNames.{pass_of};
 ghost use Rattle.body_vm.specs.declared.Pass.TheVariants as pass;
-ghost use Rattle.call_script.specs.Spelling.{is_wide};
-ghost use Rattle.call_script.specs.Standing as standing;
 ghost use Rattle.script_values.specs.Calls as spec;
 
-use crate::arguments::{
-    argument_of, is_bad_hex_argument, is_frame_argument, is_misfit, is_place_argument_out,
-    is_wrong_argument,
-};
+use crate::arguments::{argument_of, is_bad_hex_argument, is_misfit, is_wrong_argument};
 use crate::body_names::BodyNames;
-use crate::spelling::is_wide;
 use body_vm::Pass;
 use call_script::CallArg;
 use edl_interface::{Function, Param};
@@ -48,64 +42,6 @@ impl ArgumentRule<'_> {
             ArgumentRule::UnknownName(names) => names.is_unknown_argument(param, word),
             ArgumentRule::WrongPass(names) => names.is_wrong_pass(param, word),
         }
-    }
-
-    fn is_broken_among(&self, params: &[Param], args: &[&[u8]]) -> bool
-        ensures { result ≡ list_any (λ p. spec.is_broken self.now p.0 p.1)
-            (zip params.now (map (λ w. w.now) args.now)) }
-    {
-        let [param, params @ ..] = params else {
-            return false;
-        };
-        let [word, args @ ..] = args else {
-            return false;
-        };
-        self.is_broken(param, word) || self.is_broken_among(params, args)
-    }
-
-    /// Whether an argument breaks the rule at its parameter.
-    pub fn is_broken_by_one(&self, function: &Function, args: &[&[u8]]) -> bool
-        ensures { result
-            ≡ standing.any_argument (spec.is_broken self.now) (Some function.now) (map (λ w. w.now) args.now) }
-    {
-        self.is_broken_among(function.params.as_slice(), args)
-    }
-}
-
-/// Whether there is not one argument for each parameter.
-pub fn has_other_count(function: &Function, args: &[&[u8]]) -> bool
-    ensures { result ≡ standing.has_other_count (Some function.now) (map (λ w. w.now) args.now) }
-{
-    args.len() != function.params.len()
-}
-
-/// Whether an argument has an address or an offset that is too large.
-pub fn has_place_out(args: &[&[u8]]) -> bool
-    ensures { result ≡ list_any is_place_argument_out (map (λ w. w.now) args.now) }
-{
-    match args {
-        [word, args @ ..] => is_place_argument_out(word) || has_place_out(args),
-        [] => false,
-    }
-}
-
-/// Whether an argument is a place in a frame.
-pub fn has_frame_place(args: &[&[u8]]) -> bool
-    ensures { result ≡ list_any is_frame_argument (map (λ w. w.now) args.now) }
-{
-    match args {
-        [word, args @ ..] => is_frame_argument(word) || has_frame_place(args),
-        [] => false,
-    }
-}
-
-/// Whether an argument is a number above 64 bits.
-pub fn has_wide_number(args: &[&[u8]]) -> bool
-    ensures { result ≡ list_any is_wide (map (λ w. w.now) args.now) }
-{
-    match args {
-        [word, args @ ..] => is_wide(word) || has_wide_number(args),
-        [] => false,
     }
 }
 
