@@ -13,9 +13,11 @@ ghost use Rattle.call_script.specs.Standing.{Standing};
 ghost use Rattle.script_lines.specs.Lines as lines;
 
 use crate::call_words::{argument_breaks, has_other_count};
-use edl_interface::{Function, Interface};
+use edl_interface::Function;
 use script_lines::{Arguments, Line};
-use script_values::{ArgumentRule, BodyNames, WordRule, is_dotted_name, named, register_of};
+use script_values::{
+    ArgumentRule, BodyNames, NamedInterface, WordRule, is_dotted_name, register_of,
+};
 
 /// Whether there is not one argument for each parameter of an OCALL, or one does not fit.
 fn is_wrong_pass(names: &BodyNames, function: Option<&Function>, args: &Arguments) -> bool
@@ -27,19 +29,19 @@ fn is_wrong_pass(names: &BodyNames, function: Option<&Function>, args: &Argument
 }
 
 /// Wrong arguments: their count, or the form of one.
-pub fn has_wrong_arguments(interface: &Interface, names: &BodyNames, line: &Line) -> bool
+pub fn has_wrong_arguments(interface: &NamedInterface, names: &BodyNames, line: &Line) -> bool
     ensures { (s : Standing)
         → (standing.is_action (lines.line_of line.now) ≡ true → names.now ≡ standing.names_at interface.now s)
         → result ≡ spec.has_wrong_arguments interface.now s (lines.line_of line.now) }
 {
     match line {
         Line::Call { name, args } => {
-            let function = named(interface.ecalls.as_slice(), *name);
+            let function = interface.ecalls().named(*name);
             has_other_count(function, args)
                 || argument_breaks(&ArgumentRule::WrongForm, function, args)
         }
         Line::Ocall { name, args, .. } => {
-            is_wrong_pass(names, named(interface.ocalls.as_slice(), *name), args)
+            is_wrong_pass(names, interface.ocalls().named(*name), args)
         }
         _ => false,
     }
@@ -69,7 +71,7 @@ fn has_unknown_pass(
 }
 
 /// Unknown name in a body with these names.
-pub fn has_unknown_name(interface: &Interface, names: &BodyNames, line: &Line) -> bool
+pub fn has_unknown_name(interface: &NamedInterface, names: &BodyNames, line: &Line) -> bool
     ensures { (s : Standing)
         → (standing.is_action (lines.line_of line.now) ≡ true → names.now ≡ standing.names_at interface.now s)
         → result ≡ spec.has_unknown_name interface.now s (lines.line_of line.now) }
@@ -82,7 +84,7 @@ pub fn has_unknown_name(interface: &Interface, names: &BodyNames, line: &Line) -
             name,
             args,
         } => {
-            let function = named(interface.ocalls.as_slice(), *name);
+            let function = interface.ocalls().named(*name);
             has_unknown_pass(names, *returned, *status, function, args)
         }
         _ => false,

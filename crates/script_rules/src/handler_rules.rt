@@ -11,16 +11,16 @@ ghost use Rattle.call_script.specs.Standing.{Standing};
 ghost use Rattle.script_lines.specs.Lines as lines;
 
 use crate::call_words::has_frame_place;
-use edl_interface::{Function, Interface};
+use edl_interface::Function;
 use script_lines::{Line, Scope};
-use script_values::{is_in_frame, named};
+use script_values::{NamedInterface, is_in_frame};
 
 /// The function whose handler stands at a place.
-pub fn handled_function<'a>(interface: &'a Interface, scope: Scope) -> Option<&'a Function>
+pub fn handled_function<'a>(interface: &NamedInterface<'a>, scope: Scope) -> Option<&'a Function>
     ensures { option_copied result ≡ standing.handled_function interface.now (lines.scope_of scope.entry) }
 {
     match scope {
-        Scope::InHandler { name } => named(interface.ocalls.as_slice(), name),
+        Scope::InHandler { name } => interface.ocalls().named(name),
         _ => None,
     }
 }

@@ -19,6 +19,6 @@ pub use kinds::{
     is_act, is_action, is_race, is_racer, is_repeat, is_setting, is_temporary, is_thread,
 };
 pub use line_rules::{
-    has_bad_hex, has_misfit, has_number_out_of_range, has_unknown_function, is_for_other_program,
-    is_not_understood,
+    has_bad_hex, has_misfit, has_number_out_of_range, has_unknown_function, is_alignment,
+    is_for_other_program, is_not_understood,
 };

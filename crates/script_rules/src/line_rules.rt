@@ -7,10 +7,10 @@ ghost use Rattle.call_script.specs.Standing as standing;
 ghost use Rattle.script_lines.specs.Lines as lines;
 
 use crate::call_words::{argument_breaks, has_place_out, has_wide_number};
-use edl_interface::{Function, Interface};
 use script_lines::Line;
 use script_values::{
-    ArgumentRule, WordRule, is_bad_hex, is_dotted_name, is_place_out, is_wide, named,
+    ArgumentRule, NamedFunctions, NamedInterface, WordRule, is_bad_hex, is_dotted_name,
+    is_place_out, is_wide,
 };
 use script_words::{is_out_of, number_of};
 
@@ -29,7 +29,7 @@ pub fn is_not_understood(line: &Line) -> bool
     }
 }
 
-fn is_alignment(number: u64) -> bool
+pub fn is_alignment(number: u64) -> bool
     ensures { result ≡ list_any (nat_eq number) (1 ∷ 2 ∷ 4 ∷ 8 ∷ 16 ∷ []) }
 {
     number == 1 || number == 2 || number == 4 || number == 8 || number == 16
@@ -67,34 +67,32 @@ pub fn has_number_out_of_range(line: &Line) -> bool
     }
 }
 
-fn is_unknown(functions: &[Function], name: &[u8]) -> bool
+fn is_unknown(functions: &NamedFunctions, name: &[u8]) -> bool
     ensures { result ≡ standing.is_unknown functions.now name.now }
 {
-    named(functions, name).is_none()
+    functions.named(name).is_none()
 }
 
 /// Unknown function.
-pub fn has_unknown_function(interface: &Interface, line: &Line) -> bool
+pub fn has_unknown_function(interface: &NamedInterface, line: &Line) -> bool
     ensures { result ≡ spec.has_unknown_function interface.now (lines.line_of line.now) }
 {
     match line {
-        Line::Call { name, .. } | Line::Body { name } => {
-            is_unknown(interface.ecalls.as_slice(), *name)
-        }
+        Line::Call { name, .. } | Line::Body { name } => is_unknown(interface.ecalls(), *name),
         Line::Ocall { name, .. } | Line::Handler { name } => {
-            is_unknown(interface.ocalls.as_slice(), *name)
+            is_unknown(interface.ocalls(), *name)
         }
         _ => false,
     }
 }
 
 /// Value does not fit.
-pub fn has_misfit(interface: &Interface, line: &Line) -> bool
+pub fn has_misfit(interface: &NamedInterface, line: &Line) -> bool
     ensures { result ≡ spec.has_misfit interface.now (lines.line_of line.now) }
 {
     match line {
         Line::Call { name, args } => {
-            let function = named(interface.ecalls.as_slice(), *name);
+            let function = interface.ecalls().named(*name);
             argument_breaks(&ArgumentRule::Misfit, function, args)
         }
         _ => false,
@@ -113,7 +111,7 @@ pub fn is_for_other_program(racing: bool, line: &Line) -> bool
 }
 
 /// Bad hex.
-pub fn has_bad_hex(interface: &Interface, line: &Line) -> bool
+pub fn has_bad_hex(interface: &NamedInterface, line: &Line) -> bool
     ensures { result ≡ spec.has_bad_hex interface.now (lines.line_of line.now) }
 {
     match line {
@@ -121,7 +119,7 @@ pub fn has_bad_hex(interface: &Interface, line: &Line) -> bool
             is_bad_hex(*hex)
         }
         Line::Call { name, args } => {
-            let function = named(interface.ecalls.as_slice(), *name);
+            let function = interface.ecalls().named(*name);
             argument_breaks(&ArgumentRule::BadHex, function, args)
         }
         _ => false,
