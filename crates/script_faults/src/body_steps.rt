@@ -17,20 +17,20 @@ use crate::codes::BodyAround;
 use crate::limit_rules::BodyRoom;
 use crate::names::body_name;
 use crate::room::less;
-use edl_interface::{Function, Interface, Param};
+use edl_interface::Param;
 use script_lines::Line;
 use script_rules::{is_action, is_temporary};
-use script_values::{BodyNames, named};
+use script_values::{BodyNames, NamedFunctions, NamedInterface};
 use script_words::NumberedLines;
 use sgx_base::Name;
 use sqlite_items::Items;
 use std::alloc::{AllocError, Global};
 
 /// The parameters of the function of this name.
-fn params_of<'a>(functions: &'a [Function], name: &[u8]) -> &'a [Param]
+fn params_of<'a>(functions: &'a NamedFunctions, name: &[u8]) -> &'a [Param]
     ensures { result.now ≡ standing.params_of (standing.named functions.now name.now) }
 {
-    match named(functions, name) {
+    match functions.named(name) {
         Some(function) => function.params.as_slice(),
         None => &[],
     }
@@ -38,7 +38,7 @@ fn params_of<'a>(functions: &'a [Function], name: &[u8]) -> &'a [Param]
 
 /// The parameters of the function of this name, where none has more than 64.
 #[tactic(auto, using(crate::proofs::ParamLaws::few_params))]
-fn few_params_of<'a>(functions: &'a [Function], name: &[u8]) -> &'a [Param]
+fn few_params_of<'a>(functions: &'a NamedFunctions, name: &[u8]) -> &'a [Param]
     requires { All (λ f. length f.params ≤ 64) functions.now }
     ensures value { result.now ≡ standing.params_of (standing.named functions.now name.now) }
     ensures few { length result.now ≤ 64 }
@@ -78,7 +78,7 @@ impl<'a> Body<'a> {
     /// The body of this name, whose lines begin with the next.
     fn begun<'t>(
         alloc: Global,
-        interface: &'a Interface,
+        interface: &'a NamedInterface,
         name: &'t [u8],
         behind: &NumberedLines<'t>,
     ) -> Result<Body<'a>, AllocError>
@@ -88,7 +88,7 @@ impl<'a> Body<'a> {
     {
         let ahead = look_ahead(alloc, name, behind)?;
         Ok(Body {
-            params: few_params_of(interface.ecalls.as_slice(), name),
+            params: few_params_of(interface.ecalls(), name),
             temporaries: ahead.temporaries,
             given: 0,
             room: BodyRoom::new(),
@@ -111,7 +111,7 @@ impl<'a> Body<'a> {
     pub fn go_on<'t>(
         &mut self,
         alloc: Global,
-        interface: &'a Interface,
+        interface: &'a NamedInterface,
         line: &Line<'t>,
         behind: &NumberedLines<'t>,
     ) -> Result<(), AllocError>

@@ -11,7 +11,7 @@ use crate::before::Before;
 use crate::before_rules::{has_no_such_cell, is_out_of_order, is_set_too_late, is_set_twice};
 use crate::limit_rules::{BodyRoom, is_one_too_many};
 use crate::temporaries::is_given_twice;
-use edl_interface::{Interface, Param};
+use edl_interface::Param;
 use script_lines::{Blocks, Line, Setting};
 use script_rules::{
     calls_in_switchless_handler, handled_function, has_address_outside_host, has_bad_hex,
@@ -19,7 +19,7 @@ use script_rules::{
     has_wrong_arguments, is_for_other_program, is_handler, is_not_understood, is_unpaired,
     lacks_its_frame, skips_past_end,
 };
-use script_values::BodyNames;
+use script_values::{BodyNames, NamedInterface};
 use sgx_base::Name;
 
 /// What the body around a line is, where it stands in one.
@@ -58,7 +58,7 @@ fn code_or(is_broken: bool, code: u8, behind: Option<u8>) -> Option<u8>
 
 /// The code of the line's fault: that of the first rule that it breaks.
 pub fn code_of(
-    interface: &Interface,
+    interface: &NamedInterface,
     asked: Asked,
     before: &Before,
     blocks: &Blocks,

@@ -11,8 +11,8 @@ use crate::codes::Asked;
 use crate::fault::Fault;
 use crate::stacks::stacks_do_not_fit;
 use crate::walk::SoFar;
-use edl_interface::Interface;
 use script_lines::left_outermost;
+use script_values::NamedInterface;
 use script_words::NumberedLines;
 use std::alloc::{AllocError, Global};
 
@@ -30,10 +30,10 @@ fn is_left(left: Option<u32>, number: u32) -> bool
 /// its faults. That the stacks do not fit is a fault where no line has one, at line 0.
 ///
 /// `racing` says whether the script is for the program with threads and racers, or for that with races.
-pub fn first_fault(
+pub fn first_fault<'a>(
     alloc: Global,
-    bytes: &[u8],
-    interface: &Interface,
+    bytes: &'a [u8],
+    interface: &'a NamedInterface,
     racing: bool,
 ) -> Result<Option<Fault>, AllocError>
     requires params { All (λ f. length f.params ≤ 64) interface.now.ecalls }

@@ -14,8 +14,8 @@ ghost use Rattle.script_faults.specs.Walk as spec;
 use crate::before::Before;
 use crate::body::Body;
 use crate::codes::{Asked, code_of};
-use edl_interface::Interface;
 use script_lines::{Blocks, Line, line_in};
+use script_values::NamedInterface;
 use script_words::{NumberedLine, NumberedLines};
 use std::alloc::{AllocError, Global};
 
@@ -42,7 +42,7 @@ impl<'a> SoFar<'a> {
     }
 
     /// The code of the fault of a line, which is the next.
-    fn code(&self, interface: &Interface, asked: Asked, line: &Line) -> Option<u8>
+    fn code(&self, interface: &NamedInterface, asked: Asked, line: &Line) -> Option<u8>
         ensures { (before : List block.PlacedLine) (l : spelling.NumberedLine) (ls : List spelling.NumberedLine)
             → spec.IsSoFar interface.now before (l ∷ ls) self.now
             → block.line_in (block.scope_of (nesting.open_blocks self.now.blocks)) l.words
@@ -58,7 +58,7 @@ impl<'a> SoFar<'a> {
     fn pass(
         &mut self,
         alloc: Global,
-        interface: &'a Interface,
+        interface: &'a NamedInterface,
         number: u32,
         line: Line<'a>,
         behind: &NumberedLines<'a>,
@@ -82,7 +82,7 @@ impl<'a> SoFar<'a> {
     pub fn turn(
         &mut self,
         alloc: Global,
-        interface: &'a Interface,
+        interface: &'a NamedInterface,
         asked: Asked,
         line: &mut NumberedLine<'a>,
         behind: &NumberedLines<'a>,
