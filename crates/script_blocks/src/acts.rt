@@ -13,9 +13,9 @@ ghost use Rattle.script_blocks.specs.Acts as spec;
 
 use crate::lines::BlockLine;
 use call_script::{CallArg, HostAct};
-use edl_interface::{Function, Interface};
+use edl_interface::Function;
 use script_lines::{Arguments, Line};
-use script_values::{bytes_of, call_arguments, named, ordinal_of, place_named};
+use script_values::{NamedInterface, bytes_of, call_arguments, place_named};
 use script_words::number_of;
 use sqlite_items::Items;
 use std::alloc::{AllocError, Global};
@@ -25,8 +25,8 @@ const DEPTH: u32 = 5;
 
 /// The lines of a script that are of blocks, and the interface that it is for.
 #[derive(Drop)]
-pub struct Source<'s, 'a> {
-    pub interface: &'s Interface,
+pub struct Source<'s, 'i, 'a> {
+    pub interface: &'s NamedInterface<'i>,
     pub lines: &'s [BlockLine<'a>],
 }
 
@@ -47,7 +47,7 @@ pub fn argument_words<'a>(
 
 fn arguments_for(
     alloc: Global,
-    interface: &Interface,
+    interface: &NamedInterface,
     function: Option<&Function>,
     args: &[&[u8]],
 ) -> Result<Items<CallArg>, AllocError>
@@ -64,7 +64,7 @@ fn arguments_for(
 /// The call of an ECALL.
 fn call(
     alloc: Global,
-    interface: &Interface,
+    interface: &NamedInterface,
     name: &[u8],
     args: &Arguments,
 ) -> Result<HostAct, AllocError>
@@ -73,16 +73,20 @@ fn call(
     ensures { IfOk result (λ act. act ≡ spec.call_of interface.now name.now args.now) }
 {
     let words = argument_words(alloc, args)?;
-    let ecalls = interface.ecalls.as_slice();
-    let args = arguments_for(alloc, interface, named(ecalls, name), words.as_slice())?;
+    let ecalls = interface.ecalls();
+    let args = arguments_for(alloc, interface, ecalls.named(name), words.as_slice())?;
     Ok(HostAct::Call {
-        ordinal: ordinal_of(ecalls, name),
+        ordinal: ecalls.ordinal_of(name),
         args,
     })
 }
 
 /// What a line does that is no repeat.
-fn act_of(alloc: Global, interface: &Interface, line: &Line) -> Result<Option<HostAct>, AllocError>
+fn act_of(
+    alloc: Global,
+    interface: &NamedInterface,
+    line: &Line,
+) -> Result<Option<HostAct>, AllocError>
     requires sound { IsSound interface.now }
     requires fits { spec.IsFitting (lines.line_of line.now) }
     ensures { IfOk result (λ act. spec.IsActOf interface.now (lines.line_of line.now) act) }

@@ -16,11 +16,11 @@ ghost use Rattle.script_blocks.specs.Bodies as spec;
 
 use crate::acts::{Source, argument_words};
 use crate::lines::BlockLine;
-use crate::slots::{empty_slots, is_free, place_of};
+use crate::slots::{empty_slots, is_free};
 use body_vm::{Action, Body};
-use edl_interface::{Function, Interface, Param};
+use edl_interface::{Function, Param};
 use script_lines::Line;
-use script_values::{BodyNames, OcallWords, ocall, temporary};
+use script_values::{BodyNames, NamedFunctions, NamedInterface, OcallWords, ocall, temporary};
 use sgx_base::Name;
 use sqlite_items::{Items, at};
 use std::alloc::{AllocError, Global};
@@ -85,7 +85,7 @@ fn temporaries(alloc: Global, home: u32, lines: &[BlockLine]) -> Result<Items<Na
 /// The action of the line in a body with these names.
 fn action_of(
     alloc: Global,
-    interface: &Interface,
+    interface: &NamedInterface,
     names: &BodyNames,
     line: &Line,
 ) -> Result<Option<Action>, AllocError>
@@ -109,7 +109,7 @@ fn action_of(
                 name: *name,
                 args: args.as_slice(),
             };
-            let action = ocall(alloc, interface.ocalls.as_slice(), names, &words)?;
+            let action = ocall(alloc, interface.ocalls(), names, &words)?;
             Ok(Some(action))
         }
         _ => Ok(None),
@@ -120,7 +120,7 @@ fn action_of(
 #[tactic(auto, using(crate::proofs::BodyLaws::own_action, crate::proofs::BodyLaws::other_action))]
 fn push_own_action(
     alloc: Global,
-    interface: &Interface,
+    interface: &NamedInterface,
     names: &BodyNames,
     home: u32,
     actions: &mut Items<Action>,
@@ -142,7 +142,7 @@ fn push_own_action(
 #[tactic(auto, using(crate::proofs::BodyLaws::action_turn, crate::proofs::BodyLaws::actions_end, crate::proofs::LineLaws::outside))]
 fn actions(
     alloc: Global,
-    interface: &Interface,
+    interface: &NamedInterface,
     names: &BodyNames,
     home: u32,
     lines: &[BlockLine],
@@ -196,11 +196,11 @@ fn body_of(
 }
 
 /// The place of the ECALL whose body the line opens.
-fn bodied_place(ecalls: &[Function], line: &Line) -> Option<usize>
+fn bodied_place(ecalls: &NamedFunctions, line: &Line) -> Option<usize>
     ensures { result ≡ option_and_then (ordinal_in ecalls.now) (body_name (lines.line_of line.now)) }
 {
     match line {
-        Line::Body { name } => place_of(ecalls, name),
+        Line::Body { name } => ecalls.place_of(name),
         _ => None,
     }
 }
@@ -224,14 +224,20 @@ fn fill_body(
         ≡ spec.filled_bodies source.now.interface.now (acts.lines_of source.now) slots.old.items
         (blocks.home_line here.now ∷ rest)) }
 {
-    let ecalls = source.interface.ecalls.as_slice();
+    let ecalls = source.interface.ecalls();
     let Some(place) = bodied_place(ecalls, &here.line) else {
         return Ok(());
     };
     if !is_free(slots.as_slice(), place) {
         return Ok(());
     }
-    let body = body_of(alloc, source, at(ecalls, place), here.number, behind)?;
+    let body = body_of(
+        alloc,
+        source,
+        at(ecalls.as_slice(), place),
+        here.number,
+        behind,
+    )?;
     slots[place] = Some(body);
     Ok(())
 }
@@ -244,7 +250,7 @@ fn filled_bodies(alloc: Global, source: &Source) -> Result<Vec<Option<Body>>, Al
         ≡ spec.filled_bodies source.now.interface.now (acts.lines_of source.now)
         (places.empty_slots vm.Body source.now.interface.now.ecalls) (acts.lines_of source.now)) }
 {
-    let mut slots = empty_slots(alloc, source.interface.ecalls.as_slice())?;
+    let mut slots = empty_slots(alloc, source.interface.ecalls().as_slice())?;
     let mut left = source.lines;
     while let [here, behind @ ..] = left {
         fill_body(alloc, source, &mut slots, here, behind)?;

@@ -15,25 +15,16 @@ use crate::lines::BlockLine;
 use call_script::HostAct;
 use edl_interface::Function;
 use script_lines::Line;
-use script_words::same;
+use script_values::NamedFunctions;
 use sqlite_items::Items;
 use std::alloc::{AllocError, Global};
 
-/// The place of the function of this name in its list.
-pub fn place_of(functions: &[Function], name: &[u8]) -> Option<usize>
-    ensures { result ≡ ordinal_in functions.now name.now }
-{
-    functions
-        .iter()
-        .position(|function| same(function.name.bytes(), name))
-}
-
 /// The place of the OCALL whose handler the line opens.
-fn handled_place(ocalls: &[Function], line: &Line) -> Option<usize>
+fn handled_place(ocalls: &NamedFunctions, line: &Line) -> Option<usize>
     ensures { result ≡ option_and_then (ordinal_in ocalls.now) (handler_name (lines.line_of line.now)) }
 {
     match line {
-        Line::Handler { name } => place_of(ocalls, name),
+        Line::Handler { name } => ocalls.place_of(name),
         _ => None,
     }
 }
@@ -83,7 +74,7 @@ fn fill_handler(
         ≡ spec.filled_handlers source.now.interface.now (acts.lines_of source.now) slots.old.items
         (blocks.home_line here.now ∷ rest)) }
 {
-    let Some(place) = handled_place(source.interface.ocalls.as_slice(), &here.line) else {
+    let Some(place) = handled_place(source.interface.ocalls(), &here.line) else {
         return Ok(());
     };
     if !is_free(slots.as_slice(), place) {
@@ -105,7 +96,7 @@ fn filled_handlers(
         ≡ spec.filled_handlers source.now.interface.now (acts.lines_of source.now)
         (spec.empty_slots (List HostAct) source.now.interface.now.ocalls) (acts.lines_of source.now)) }
 {
-    let mut slots = empty_slots(alloc, source.interface.ocalls.as_slice())?;
+    let mut slots = empty_slots(alloc, source.interface.ocalls().as_slice())?;
     let mut left = source.lines;
     while let [here, behind @ ..] = left {
         fill_handler(alloc, source, &mut slots, here, behind)?;

@@ -13,5 +13,5 @@ pub returns-in_ok-action-in-Ocall : goal.returns-in_ok-action-in-Ocall
 returns-in_ok-action-in-Ocall c =
     rw c.in-Ocall.is
     (its_ocall c.args.interface.now c.args.names.now c.in-Ocall.returned.now c.in-Ocall.status.now c.in-Ocall.name.now
-    c.in-Ocall.args _ _ c.in_ok-action-in-Ocall.action c.as_slice-in-Ocall.ensures
+    c.in-Ocall.args _ _ c.in_ok-action-in-Ocall.action c.ocalls.ensures
     (ap (map (λ w. w.now)) c.as_slice.ensures ∙ c.in_ok-args-in-Ocall.ensures) c.in_ok-action-in-Ocall.ensures)
