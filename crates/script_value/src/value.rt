@@ -11,15 +11,15 @@ use crate::races::races;
 use crate::settings::settings;
 use crate::words::words;
 use call_script::Script;
-use edl_interface::Interface;
 use script_blocks::{Source, block_lines, bodies, handlers, racers, threads};
+use script_values::NamedInterface;
 use std::alloc::{AllocError, Global};
 
 /// The script that a text without a fault spells for an interface, in a program with threads or one without.
 pub fn value_of(
     alloc: Global,
     text: &[u8],
-    interface: &Interface,
+    interface: &NamedInterface,
     racing: bool,
 ) -> Result<Script, AllocError>
     requires short { length text.now ≤ max_file_size }
