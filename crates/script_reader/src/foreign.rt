@@ -1,7 +1,6 @@
 //! The first reading of a script: its foreign types.
 
-ghost use Rattle.std.specs.Prelude.{◌≡◌, ◌≤◌, ◌∷◌, [], length, nat_eq, false, IfOk, option_map};
-ghost use Rattle.std.specs.List.{list_any};
+ghost use Rattle.std.specs.Prelude.{◌≡◌, ◌≤◌, length, false, IfOk, option_map};
 ghost use Rattle.sgx_base.specs.Stores.{max_file_size};
 ghost use Rattle.call_script.specs.Line.{Foreign};
 ghost use Rattle.call_script.specs.Faults.{has_number_out_of_range};
@@ -12,16 +11,11 @@ ghost use Rattle.script_reader.specs.Foreign as spec;
 use call_script::ScriptFault;
 use edl_layout::{ForeignType, ForeignTypes};
 use script_lines::{Line, Scope, line_in};
+use script_rules::is_alignment;
 use script_words::{NumberedLines, Words, is_out_of, number_of, same};
 use sgx_base::Name;
 use sqlite_items::Items;
 use std::alloc::{AllocError, Global};
-
-fn is_alignment(number: u64) -> bool
-    ensures { result ≡ list_any (nat_eq number) (1 ∷ 2 ∷ 4 ∷ 8 ∷ 16 ∷ []) }
-{
-    number == 1 || number == 2 || number == 4 || number == 8 || number == 16
-}
 
 fn has_number_out_of_range(name: &[u8], size: &[u8], alignment: &[u8]) -> bool
     ensures { result ≡ has_number_out_of_range (Foreign name.now size.now alignment.now) }

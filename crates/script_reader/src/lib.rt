@@ -15,6 +15,7 @@ use edl_interface::Interface;
 use edl_layout::ForeignTypes;
 use script_faults::{Fault, first_fault};
 use script_value::value_of;
+use script_values::NamedInterface;
 use std::alloc::Global;
 
 /// The foreign types that a script declares, for the layouts of its interface.
@@ -26,6 +27,23 @@ pub fn read_foreign(alloc: Global, bytes: &[u8]) -> Result<ForeignTypes, ScriptF
     ensures { Reads (foreign_types bytes.now) result }
 {
     foreign::read(alloc, bytes)
+}
+
+fn read_named(
+    alloc: Global,
+    bytes: &[u8],
+    interface: &NamedInterface,
+    racing: bool,
+) -> Result<Script, ScriptFault>
+    requires sound { IsSound interface.now }
+    requires short { length bytes.now ≤ max_file_size }
+    ensures exact { Reads (script_of interface.now racing bytes.now) result }
+    ensures sound { IfOk result (λ s. IsSoundScript interface.now racing s) }
+{
+    match first_fault(alloc, bytes, interface, racing)? {
+        Some(Fault { line, code }) => Err(ScriptFault::Rule { line, code }),
+        None => Ok(value_of(alloc, bytes, interface, racing)?),
+    }
 }
 
 /// The script that a text spells for an interface, for the program with threads where `racing` is true, or its fault: at
@@ -41,8 +59,6 @@ pub fn read_script(
     ensures exact { Reads (script_of interface.now racing bytes.now) result }
     ensures sound { IfOk result (λ s. IsSoundScript interface.now racing s) }
 {
-    match first_fault(alloc, bytes, interface, racing)? {
-        Some(Fault { line, code }) => Err(ScriptFault::Rule { line, code }),
-        None => Ok(value_of(alloc, bytes, interface, racing)?),
-    }
+    let named = NamedInterface::new(alloc, interface)?;
+    read_named(alloc, bytes, &named, racing)
 }

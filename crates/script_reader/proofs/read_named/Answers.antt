@@ -5,7 +5,7 @@ use Rattle.call_script.specs.Faults.{Fault}
 use Rattle.call_script.specs.Meaning.{script_value}
 use Rattle.call_script.specs.Reading.{script_of, unless_fault}
 use Rattle.script_faults.specs.Fault.{fault_of}
-use Rattle.script_reader.proofs.read_script.Goals as goal
+use Rattle.script_reader.proofs.read_named.Goals as goal
 
 pub returns-in-Some-clause-exact : goal.returns-in-Some-clause-exact
 unfolding script_of
