@@ -1,28 +1,17 @@
--- Which scripts the engine runs so far: calls by one thread.
-use Rattle.std.specs.Prelude.{ℕ, Bool, true, false, ◌&&◌, ◌==◌, if◌then◌else◌, List, [], ◌∷◌, length, Result, Ok, Err}
-use Rattle.std.specs.List.{list_all}
+-- Which scripts the engine runs so far: those of one thread.
+use Rattle.std.specs.Prelude.{ℕ, Bool, true, false, ◌&&◌, ◌==◌, if◌then◌else◌, List, length, Result, Ok, Err}
 use Rattle.edl_interface.specs.declared.Interface.{Interface}
-use Rattle.call_script.specs.declared.HostAct.{HostAct, Call}
 use Rattle.call_script.specs.declared.Settings.{Settings}
 use Rattle.call_script.specs.declared.Script.{Script}
 use Rattle.call_script.specs.Faults.{Fault}
 use Rattle.call_script.specs.Reading.{script_of}
-
-abbrev pub is_call : HostAct → Bool
-is_call (Call ordinal args) = true
-is_call _ = false
-
--- one thread, of calls alone
-abbrev pub are_plain_threads : List (List HostAct) → Bool
-are_plain_threads (acts ∷ []) = list_all is_call acts
-are_plain_threads _ = false
 
 abbrev pub has_no_workers : Settings → Bool
 has_no_workers s = s.tworkers == 0 && s.uworkers == 0
 
 abbrev pub is_plain : Script → Bool
 is_plain s =
-    has_no_workers s.settings && length s.racers == 0 && are_plain_threads s.threads
+    has_no_workers s.settings && length s.racers == 0 && length s.threads == 1
 
 -- a script that the engine does not run is told at no line
 abbrev pub not_plain : Fault

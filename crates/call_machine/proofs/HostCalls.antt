@@ -1,8 +1,7 @@
 -- What the calls of a host thread come to.
-use Rattle.std.proofs.Common.{ℕ, zero, suc, ◌+◌, ◌<◌, ◌≤◌, ◌≡◌, true, false, if◌then◌else◌, ◌&&◌, nat_lt, List, [], ◌∷◌, ◌++◌, length, zip, drop, Some, None, slice_get, get_or, Result, Ok, Err, OnOk, IfErr, refl, ap, sym, ◌∙◌, subst, append_assoc, append-nil, length-append, arith}
+use Rattle.std.proofs.Common.{ℕ, ◌+◌, ◌<◌, ◌≡◌, true, false, if◌then◌else◌, ◌&&◌, nat_lt, List, [], ◌∷◌, length, zip, Some, None, slice_get, Result, Ok, Err, OnOk, IfErr, refl, ap, sym, ◌∙◌, subst, length-append, arith}
 use Rattle.std.proofs.Math.Bool.{and-false}
-use Rattle.sgx_base.specs.declared.TheConstants.Status.{SUCCESS, UNEXPECTED}
-use Rattle.edl_interface.specs.declared.Interface.{Interface}
+use Rattle.sgx_base.specs.declared.TheConstants.Status.{UNEXPECTED}
 use Rattle.edl_interface.specs.declared.Function.{Function}
 use Rattle.edl_interface.specs.Parameters.{has_frame, return_size}
 use Rattle.word_port.specs.declared.Side.TheVariants.{Host}
@@ -12,30 +11,26 @@ use Rattle.word_port.specs.Port.{PortState}
 use Rattle.word_port.specs.Interaction.{Interaction, ret, here, and_then, map_value}
 use Rattle.word_port.specs.Accesses.{loads, stores}
 use Rattle.word_port.specs.Limits.{Progress, progress}
-use Rattle.word_port.specs.Runs.{Makes, StopsFull, Reaches, Runs, StopsAt}
-use Rattle.word_port.proofs.Laws.{and_then-assoc, and_then-ret, runs_ret, runs_then, reaches_nothing, reaches_on, reaches_first, stops_on, stops_first, stops_second}
+use Rattle.word_port.specs.Runs.{Makes, StopsFull, Runs, StopsAt}
+use Rattle.word_port.proofs.Laws.{runs_ret, runs_then, reaches_first, stops_first, stops_second}
 use Rattle.word_port.proofs.EventLaws.{record_then, place_then, steps_then, no_record, steps_stop_then, steps_full_then}
 use Rattle.ocall_frames.specs.declared.HostStack.{HostStack}
 use Rattle.ocall_frames.specs.Stack.{frame_below}
 use Rattle.switchless.specs.Slots.{offered_word}
 use Rattle.switchless.specs.Caller.{caller}
 use Rattle.call_script.specs.declared.CallArg.{CallArg}
-use Rattle.call_script.specs.declared.HostAct.{HostAct, Call}
 use Rattle.call_report.specs.declared.Way.TheVariants.{Ordinary}
 use Rattle.call_report.specs.declared.CallKind.TheVariants.{Ecall}
 use Rattle.call_report.specs.declared.CallRecord.{CallRecord}
 use Rattle.call_report.specs.RecordList.{RecordList, records_left, with_records}
 use Rattle.bridge_program.specs.Entry.{is_empty}
 use Rattle.call_machine.specs.declared.Machine.{Machine}
-use Rattle.call_machine.specs.Acts.{Actor, acts_from, acts_of}
-use Rattle.call_machine.specs.Calls.{host_call, call_to, call_where, call_in_frame, entry, ecall_pool, unless_taken, with_record, with_return, no_frame, call_frame, string_lengths}
+use Rattle.call_machine.specs.Calls.{host_call, raw_call, call_to, call_where, call_in_frame, entry, ecall_pool, unless_taken, with_record, with_return, no_frame, call_frame, string_lengths}
 use Rattle.call_machine.specs.Context.{Context, depth_of}
 use Rattle.call_machine.specs.Ecall.{ecall_record}
-use Rattle.call_machine.specs.PlainScript.{IsPlainCall, AreArguments}
 use Rattle.call_machine.specs.Tcs.{TcsState, context_of, moment}
 use Rattle.call_machine.specs.Result.{Outcome, is_success}
-use Rattle.call_machine.specs.Thread.{ecall, ecalls, host_actor, thread}
-use std.Path.{fun_ext}
+use Rattle.call_machine.specs.Thread.{ecall, ecalls}
 
 -- the record of a call whose frame does not fit
 pub unframed_runs : (cx : Context) (ordinal place before after waits : ℕ) (port : PortState) → before ≡ after + 1 → place ≡ length port.log
@@ -151,62 +146,6 @@ module _ (m : Machine) (no_workers : m.script.settings.tworkers ≡ 0) where
       → StopsAt Steps (call_in_frame m (ecalls m cx) cx ordinal f bytes at) (progress old before waits) new
   call_stops_storing cx f ordinal bytes at old new before waits stopped = steps_full_then (stores Host at bytes) _ old new before waits stopped
 
--- what is left of the acts, after these records
-abbrev pub acts_left : Actor → List CallRecord → List HostAct → Interaction Outcome
-acts_left actor made acts = and_then (acts_from actor acts SUCCESS) (λ more. ret (record { status = more.status; records = made ++ more.records }))
-
-module _ (actor : Actor) (made : List CallRecord) (ordinal : ℕ) (args : List CallArg) (rest : List HostAct) where
-  -- a call, and then the rest
-  abbrev one_call : List CallRecord → Interaction Outcome
-  one_call more = ret (record { status = SUCCESS; records = more })
-
-  abbrev then_rest : Outcome → Interaction Outcome
-  then_rest out = map_value (λ more. record { status = more.status; records = out.records ++ more.records }) (acts_from actor rest out.status)
-
-  abbrev then_made : Outcome → Interaction Outcome
-  then_made more = ret (record { status = more.status; records = made ++ more.records })
-
-  rest_is : (more : List CallRecord) → and_then (then_rest (record { status = SUCCESS; records = more })) then_made ≡ acts_left actor (made ++ more) rest
-  rest_is more =
-      and_then-assoc (acts_from actor rest SUCCESS) (λ out. ret (record { status = out.status; records = more ++ out.records })) then_made
-      ∙ ap (λ k. and_then (acts_from actor rest SUCCESS) k)
-      (fun_ext (λ (out : Outcome). ap (λ l. ret (record { status = out.status; records = l })) (sym (append_assoc made more out.records))))
-
-  -- one more call is made
-  pub call_made : (before after : Progress) (more : List CallRecord) → Runs (actor.calls ordinal args) before after more
-      → Reaches (acts_left actor made (Call ordinal args ∷ rest)) before after (acts_left actor (made ++ more) rest)
-  call_made before after more run =
-      subst (λ t. Reaches (acts_left actor made (Call ordinal args ∷ rest)) before after t) (rest_is more)
-      (reaches_first (and_then (and_then (actor.calls ordinal args) one_call) then_rest) (then_rest (record { status = SUCCESS; records = more })) then_made before after
-      (reaches_first (and_then (actor.calls ordinal args) one_call) (one_call more) then_rest before after
-      (reaches_first (actor.calls ordinal args) (ret more) one_call before after run)))
-
-  -- a call is cut
-  pub call_cut : (full : RunFull) (before : Progress) (new : PortState) → StopsAt full (actor.calls ordinal args) before new
-      → StopsAt full (acts_left actor made (Call ordinal args ∷ rest)) before new
-  call_cut full before new stopped =
-      stops_first full (and_then (and_then (actor.calls ordinal args) one_call) then_rest) then_made before new
-      (stops_first full (and_then (actor.calls ordinal args) one_call) then_rest before new
-      (stops_first full (actor.calls ordinal args) one_call before new stopped))
-
-drop_act : (acts : List HostAct) (i : ℕ) (act : HostAct) → slice_get acts i ≡ Some act → drop i acts ≡ act ∷ drop (suc i) acts
-drop_act [] i act e = cc
-drop_act (a ∷ acts) zero act e = let same : a ≡ act = cc in ap (λ x. x ∷ acts) same
-drop_act (a ∷ acts) (suc i) act e = drop_act acts i act e
-
-drop_acts : (acts : List HostAct) (i : ℕ) → length acts ≤ i → drop i acts ≡ []
-drop_acts [] zero h = refl
-drop_acts [] (suc i) h = refl
-drop_acts (a ∷ acts) zero h = absurd (omega (arith, h))
-drop_acts (a ∷ acts) (suc i) h = let below : length acts ≤ i = omega (arith, h) in drop_acts acts i below
-
--- a thread with no act behind it
-pub thread_begins : (m : Machine) (cx : Context) (acts : List HostAct) (now : Progress)
-    → Reaches (thread m cx acts) now now (acts_left (host_actor m (ecalls m cx) cx 0 0) [] (drop 0 acts))
-unfolding thread acts_of
-thread_begins m cx acts now =
-    subst (λ t. Reaches (thread m cx acts) now now t) (sym (and_then-ret (acts_from (host_actor m (ecalls m cx) cx 0 0) acts SUCCESS))) (reaches_nothing (thread m cx acts) now)
-
 -- with another host stack, and with another top
 abbrev pub with_stack : TcsState → HostStack → TcsState
 with_stack t h = record t { base = h.base; top = h.top }
@@ -222,24 +161,6 @@ on_ok_map (Err e) P Q f p = tt
 pub if_err_map : (result : Result (Unit {0}) RunFull) (P Q : RunFull → Type 0) → ((full : RunFull) → P full → Q full) → IfErr result P → IfErr result Q
 if_err_map (Ok u) P Q f p = tt
 if_err_map (Err e) P Q f p = f e p
-
--- the arguments of a call fit the parameters of its function
-pub call_fits : (i : Interface) (ordinal : ℕ) (args : List CallArg) (f : Function) → IsPlainCall i (Call ordinal args) → slice_get i.ecalls ordinal ≡ Some f → AreArguments f.params args
-call_fits i ordinal args f act at =
-    let acts : Call ordinal args ≡ Call act.ordinal act.args = act.act_is in
-    let ordinals : ordinal ≡ act.ordinal = cc in
-    let arguments : args ≡ act.args = cc in
-    let functions : Some act.function ≡ Some f = sym act.found ∙ ap (λ n. slice_get i.ecalls n) (sym ordinals) ∙ at in
-    let function : act.function ≡ f = cc in
-    subst (λ x. AreArguments x.params args) function (subst (λ a. AreArguments act.function.params a) (sym arguments) act.fits)
-
--- a call is one of the interface's functions
-pub call_known : (i : Interface) (ordinal : ℕ) (args : List CallArg) → IsPlainCall i (Call ordinal args) → slice_get i.ecalls ordinal ≡ None → ⊥
-call_known i ordinal args act none =
-    let acts : Call ordinal args ≡ Call act.ordinal act.args = act.act_is in
-    let ordinals : ordinal ≡ act.ordinal = cc in
-    let both : Some act.function ≡ None = sym act.found ∙ ap (λ n. slice_get i.ecalls n) (sym ordinals) ∙ none in
-    absurd cc
 
 -- a call that is made or cut in a frame on the host stack
 module _ (m : Machine) (f : Function) (ordinal : ℕ) (bytes : List ℕ) (t : TcsState) where
@@ -353,58 +274,16 @@ module _ (m : Machine) (no_workers : m.script.settings.tworkers ≡ 0) (f : Func
   frameless_made after out run =
       subst (λ t. Runs t before after out.records) (sym frameless) (reaches_first (ecall m cx ordinal 0 Ordinary) (ret out) (λ o. ret o.records) before after run)
 
-act_at : (acts : List HostAct) (i : ℕ) (act : HostAct) → i < length acts → act ≡ get_or acts i act → slice_get acts i ≡ Some act
-act_at [] i act h e = absurd (omega (arith, h))
-act_at (a ∷ acts) zero act h e = ap (λ x. Some x) (sym e)
-act_at (a ∷ acts) (suc i) act h e = let below : i < length acts = omega (arith, h) in act_at acts i act below e
+-- an entry at an address of the script's own
+module _ (m : Machine) (cx : Context) (ordinal at : ℕ) (before : Progress) where
+  entered_raw : raw_call (ecalls m cx) cx ordinal at ≡ map_value (λ out. out.records) (ecall m cx ordinal at Ordinary)
+  unfolding ecall
+  entered_raw = refl
 
-module _ (m : Machine) (acts : List HostAct) (t now : TcsState) (old port : PortState) (begun records : RecordList) (made : List CallRecord) (i : ℕ) where
-  abbrev the_actor : Actor
-  the_actor = host_actor m (ecalls m (context_of t)) (context_of t) 0 0
+  pub raw_cut : (full : RunFull) (new : PortState) → StopsAt full (ecall m cx ordinal at Ordinary) before new → StopsAt full (raw_call (ecalls m cx) cx ordinal at) before new
+  raw_cut full new stopped =
+      subst (λ t. StopsAt full t before new) (sym entered_raw) (stops_first full (ecall m cx ordinal at Ordinary) (λ out. ret out.records) before new stopped)
 
-  module _ (so_far : Reaches (thread m (context_of t) acts) (moment old begun t) (moment port records now) (acts_left the_actor made (drop i acts)))
-      (grown : records ≡ with_records begun made) (kept : now ≡ record t { waits = now.waits }) where
-    -- all acts are done
-    pub thread_ends : length acts ≤ i
-        → (out : Outcome) × Runs (thread m (context_of t) acts) (moment old begun t) (moment port records now) out × (records ≡ with_records begun out.records) × (now ≡ record t { waits = now.waits })
-    thread_ends all = (
-      record { status = SUCCESS; records = made ++ [] },
-      subst (λ l. Reaches (thread m (context_of t) acts) (moment old begun t) (moment port records now) (acts_left the_actor made l)) (drop_acts acts i all) so_far,
-      grown ∙ ap (λ l. with_records begun l) (sym (append-nil made)),
-      kept,
-    )
-
-    module _ (ordinal : ℕ) (args : List CallArg) (act : HostAct) (below : i < length acts) (act_is : act ≡ get_or acts i act) (call_is : act ≡ Call ordinal args) where
-      rest_are : drop i acts ≡ Call ordinal args ∷ drop (i + 1) acts
-      rest_are =
-          let next : suc i ≡ i + 1 = omega arith in
-          drop_act acts i act (act_at acts i act below act_is) ∙ ap (λ a. a ∷ drop (suc i) acts) call_is ∙ ap (λ n. Call ordinal args ∷ drop n acts) next
-
-      so_far_is : Reaches (thread m (context_of t) acts) (moment old begun t) (moment port records now) (acts_left the_actor made (Call ordinal args ∷ drop (i + 1) acts))
-      so_far_is = subst (λ l. Reaches (thread m (context_of t) acts) (moment old begun t) (moment port records now) (acts_left the_actor made l)) rest_are so_far
-
-      abbrev the_call : Context → Interaction (List CallRecord)
-      the_call cx = host_call m (ecalls m cx) cx 0 ordinal args
-
-      -- one more act is done
-      pub thread_goes_on : (next : TcsState) (new : PortState) (after : RecordList)
-          → (more : List CallRecord) × Runs (the_call (context_of now)) (moment port records now) (moment new after next) more × (after ≡ with_records records more) × (next ≡ record now { waits = next.waits })
-          → (all : List CallRecord) × Reaches (thread m (context_of t) acts) (moment old begun t) (moment new after next) (acts_left the_actor all (drop (i + 1) acts))
-          × (after ≡ with_records begun all) × (next ≡ record t { waits = next.waits })
-      thread_goes_on next new after (more, run, longer, same) =
-          let here_run : Runs (the_call (context_of t)) (moment port records now) (moment new after next) more =
-          subst (λ cx. Runs (the_call cx) (moment port records now) (moment new after next) more) (ap (λ u. context_of u) kept) run in (
-            made ++ more,
-            reaches_on (thread m (context_of t) acts) (acts_left the_actor made (Call ordinal args ∷ drop (i + 1) acts)) (acts_left the_actor (made ++ more) (drop (i + 1) acts)) (moment old begun t) (moment port records now) (moment new after next)
-                so_far_is (call_made the_actor made ordinal args (drop (i + 1) acts) (moment port records now) (moment new after next) more here_run),
-            longer ∙ ap (λ r. with_records r more) grown ∙ ap (λ l. record begun { list = l }) (append_assoc begun.list made more),
-            same ∙ ap {A = TcsState} (λ (u : TcsState). record u { waits = next.waits }) kept,
-          )
-
-      -- the act is cut
-      pub thread_cut : (full : RunFull) (new : PortState) → StopsAt full (the_call (context_of now)) (moment port records now) new
-          → StopsAt full (thread m (context_of t) acts) (moment old begun t) new
-      thread_cut full new stopped =
-          stops_on full (thread m (context_of t) acts) (acts_left the_actor made (Call ordinal args ∷ drop (i + 1) acts)) (moment old begun t) (moment port records now) new so_far_is
-          (call_cut the_actor made ordinal args (drop (i + 1) acts) full (moment port records now) new
-          (subst (λ cx. StopsAt full (the_call cx) (moment port records now) new) (ap (λ u. context_of u) kept) stopped))
+  pub raw_made : (after : Progress) (out : Outcome) → Runs (ecall m cx ordinal at Ordinary) before after out → Runs (raw_call (ecalls m cx) cx ordinal at) before after out.records
+  raw_made after out run =
+      subst (λ t. Runs t before after out.records) (sym entered_raw) (reaches_first (ecall m cx ordinal at Ordinary) (ret out) (λ o. ret o.records) before after run)

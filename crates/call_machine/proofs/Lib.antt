@@ -1,4 +1,6 @@
 pub mod ActLaws
+pub mod ActRuns
+pub mod ActSizes
 pub mod BlockLengths
 pub mod BodyRange
 pub mod BodyRuns
@@ -12,10 +14,13 @@ pub mod HeldBlocks
 pub mod HostCalls
 pub mod HostFrames
 pub mod OneReport
+pub mod PeekRecord
 pub mod PlainEcall
 pub mod PlainEntry
+pub mod Pokes
 pub mod RefusedLoads
 pub mod Results
 pub mod RunLaws
 pub mod SoundMachines
 pub mod StringLaws
+pub mod ThreadActs

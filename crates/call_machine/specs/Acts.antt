@@ -27,31 +27,35 @@ pub record Actor : Type 0 where
   pub calls : ℕ → List CallArg → Interaction (List CallRecord)
   pub raw_calls : ℕ → ℕ → Interaction (List CallRecord)
 
+-- the address of a place, where frames of the handler begin at this one
+abbrev pub place_address : ℕ → Place → ℕ
+place_address frame (At address) = address
+place_address frame (InFrame offset) = frame + offset
+
 -- the address of a place
 abbrev pub address_of : Actor → Place → ℕ
-address_of actor (At address) = address
-address_of actor (InFrame offset) = actor.frame + offset
+address_of actor place = place_address actor.frame place
 
--- writes the bytes, and passes over those that fall outside host memory
-abbrev pub mapped_stores : Actor → ℕ → List ℕ → Interaction (Unit {0})
-mapped_stores actor address [] = ret tt
-mapped_stores actor address (b ∷ bytes) =
-    if is_mapped actor.host address 1 then and_then (swap actor.side (word_at address) b) (λ old. mapped_stores actor (address + 1) bytes)
-    else mapped_stores actor (address + 1) bytes
+-- writes the bytes, and passes over those that fall outside a host memory of so many bytes
+abbrev pub mapped_stores : Side → ℕ → ℕ → List ℕ → Interaction (Unit {0})
+mapped_stores side host address [] = ret tt
+mapped_stores side host address (b ∷ bytes) =
+    if is_mapped host address 1 then and_then (swap side (word_at address) b) (λ old. mapped_stores side host (address + 1) bytes)
+    else mapped_stores side host (address + 1) bytes
 
--- loads so many bytes, and passes over those that fall outside host memory
-abbrev pub mapped_loads : Actor → ℕ → ℕ → Interaction (Unit {0})
-mapped_loads actor address zero = ret tt
-mapped_loads actor address (suc count) =
-    if is_mapped actor.host address 1 then and_then (load actor.side (word_at address)) (λ b. mapped_loads actor (address + 1) count)
-    else mapped_loads actor (address + 1) count
+-- loads so many bytes, and passes over those that fall outside a host memory of so many bytes
+abbrev pub mapped_loads : Side → ℕ → ℕ → ℕ → Interaction (Unit {0})
+mapped_loads side host address zero = ret tt
+mapped_loads side host address (suc count) =
+    if is_mapped host address 1 then and_then (load side (word_at address)) (λ b. mapped_loads side host (address + 1) count)
+    else mapped_loads side host (address + 1) count
 
--- the record of a peek
-abbrev pub peek_record : Actor → ℕ → ℕ → ℕ → CallRecord
-peek_record actor address first last = record {
+-- the record of a peek, where so many calls are in progress
+abbrev pub peek_record : ℕ → ℕ → ℕ → ℕ → CallRecord
+peek_record depth address first last = record {
   kind = peek_kind;
   ordinal = 0;
-  depth = actor.depth;
+  depth = depth;
   frame = address;
   way = Ordinary;
   status = SUCCESS;
@@ -60,10 +64,10 @@ peek_record actor address first last = record {
   last = last;
 }
 
--- the loads of a peek, and its record
-abbrev pub peek : Actor → ℕ → ℕ → Interaction (List CallRecord)
-peek actor address count =
-    tick new_record (here (λ first. and_then (mapped_loads actor address count) (λ done. here (λ last. ret (peek_record actor address first last ∷ [])))))
+-- the loads of a peek in a host memory of so many bytes, and its record
+abbrev pub peek : Side → ℕ → ℕ → ℕ → ℕ → Interaction (List CallRecord)
+peek side host depth address count =
+    tick new_record (here (λ first. and_then (mapped_loads side host address count) (λ done. here (λ last. ret (peek_record depth address first last ∷ [])))))
 
 -- with this status, whatever records come
 abbrev pub with_status : Status → Interaction (List CallRecord) → Interaction Outcome
@@ -87,8 +91,8 @@ abbrev mutual
   pub act_of : Actor → HostAct → Status → Interaction Outcome
   act_of actor (Call ordinal args) status = with_status status (actor.calls ordinal args)
   act_of actor (Raw ordinal address) status = with_status status (actor.raw_calls ordinal address)
-  act_of actor (Poke place bytes) status = with_status status (map_value no_records (mapped_stores actor (address_of actor place) bytes))
-  act_of actor (Peek place count) status = with_status status (peek actor (address_of actor place) count)
+  act_of actor (Poke place bytes) status = with_status status (map_value no_records (mapped_stores actor.side actor.host (address_of actor place) bytes))
+  act_of actor (Peek place count) status = with_status status (peek actor.side actor.host actor.depth (address_of actor place) count)
   act_of actor (Return n) status = with_status status (map_value no_records (stores actor.side actor.frame (low_bytes actor.return_size n)))
   act_of actor (Reply n) status = ret (record { status = record { 0 = n }; records = [] })
   act_of actor (Repeat' times shape acts) status = repeat times (row_of actor acts) status

@@ -53,9 +53,13 @@ ecall m cx ordinal address way = with_record (ecalls m cx cx ordinal address way
 unfoldable pub ocall : Machine → Context → ℕ → List Argument → Interaction OcallOutcome
 ocall m cx ordinal arguments = ocall_by m (handlers_by m (ecalls m cx)) cx ordinal arguments
 
+-- the host outside handlers
+abbrev pub thread_actor : Machine → Context → Actor
+thread_actor m cx = host_actor m (ecalls m cx) cx 0 0
+
 -- what a host thread does for its acts
 unfoldable pub thread : Machine → Context → List HostAct → Interaction Outcome
-thread m cx acts = acts_of (host_actor m (ecalls m cx) cx 0 0) acts
+thread m cx acts = acts_of (thread_actor m cx) acts
 
 -- what a racer does for its acts, in a host memory of so many bytes
 unfoldable pub racer_acts : ℕ → List HostAct → Interaction Outcome

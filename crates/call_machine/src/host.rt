@@ -1,6 +1,6 @@
-//! What a host thread does: its calls, each with a frame on its host stack.
+//! The calls of a host thread, each with a frame on its host stack.
 
-ghost use Rattle.std.specs.Prelude.{ℕ, List, ◌≡◌, ◌≤◌, ◌+◌, [], length, All, Some, IfErr, OnOk, true, slice_get};
+ghost use Rattle.std.specs.Prelude.{ℕ, List, ◌≡◌, ◌≤◌, ◌+◌, [], length, Some, IfErr, OnOk, true, slice_get};
 ghost use Rattle.sgx_base.specs.Ranges.{host_start};
 ghost use Rattle.edl_interface.specs.Parameters.{has_frame};
 ghost use Rattle.word_port.specs.Accesses.{loads};
@@ -8,16 +8,16 @@ ghost use Rattle.word_port.specs.Runs.{Makes, Runs, StopsAt};
 ghost use Rattle.word_port.specs.declared.Side.TheVariants.{Host};
 ghost use Rattle.call_copy.specs.Stops.{IsCutShort};
 ghost use Rattle.ocall_frames.specs.Stack.{frame_below};
+ghost use Rattle.call_script.specs.Sound.{OfThread, IsSoundCall};
 ghost use Rattle.call_report.specs.declared.CallRecord.{CallRecord};
 ghost use Rattle.call_report.specs.RecordList.{with_records};
 ghost use Rattle.call_machine.specs.Calls.{host_call, call_where, call_in_frame, no_frame};
 ghost use Rattle.call_machine.specs.Context.{Context};
-ghost use Rattle.call_machine.specs.PlainScript.{IsPlainCall, AreArguments};
+ghost use Rattle.call_machine.specs.PlainScript.{AreArguments};
 ghost use Rattle.call_machine.specs.Plain.{IsPlainMachine, IsPlainFunction};
 ghost use Rattle.call_machine.specs.Made.{MakesCalls};
-ghost use Rattle.call_machine.specs.Result.{Outcome};
 ghost use Rattle.call_machine.specs.Tcs.{context_of, moment, HasStackInHost, IsPortOf};
-ghost use Rattle.call_machine.specs.Thread.{ecalls, thread};
+ghost use Rattle.call_machine.specs.Thread.{ecalls};
 
 use crate::arguments::fill_frame;
 use crate::entry::ecall;
@@ -25,7 +25,7 @@ use crate::strings::string_lengths;
 use crate::{Machine, Tcs};
 use call_copy::{load_bytes, put_range};
 use call_report::{CallKind, CallRecord, Records, Way};
-use call_script::{CallArg, HostAct};
+use call_script::CallArg;
 use edl_interface::Function;
 use ocall_frames::{drop_frame, take_frame};
 use sgx_base::Status;
@@ -202,7 +202,7 @@ fn call_framed<P: WordPort>(
 }
 
 /// A call by the host of one of the ECALLs, which may have no frame.
-fn call<P: WordPort>(
+pub(crate) fn call<P: WordPort>(
     machine: &Machine,
     tcs: &mut Tcs,
     port: &mut P,
@@ -214,7 +214,7 @@ fn call<P: WordPort>(
     requires stack { tcs.old.stack ≡ [] }
     requires stack_in { HasStackInHost machine.now tcs.old }
     requires port { IsPortOf machine.now (P.state port.old) }
-    requires act { IsPlainCall machine.now.interface (HostAct.Call ordinal args.now) }
+    requires sound { IsSoundCall machine.now.interface machine.now.script.settings.host OfThread ordinal args.now }
     ensures ok { OnOk result (MakesCalls
         (host_call machine.now (ecalls machine.now (context_of tcs.old)) (context_of tcs.old) 0 ordinal args.now)
         (P.state port.old) (P.state port.new) records.old records.new tcs.old tcs.new) }
@@ -234,36 +234,5 @@ fn call<P: WordPort>(
         return call_framed(machine, tcs, port, call, records);
     }
     ecall(machine, tcs, port, ordinal, 0, Way::Ordinary, records)?;
-    Ok(())
-}
-
-/// What a host thread does for its acts, in order, with the records of its calls.
-///
-/// After an `Err` nothing is told of the `Tcs` and the records. It takes no memory.
-pub fn run_thread<P: WordPort>(
-    machine: &Machine,
-    tcs: &mut Tcs,
-    port: &mut P,
-    acts: &[HostAct],
-    records: &mut Records,
-) -> Result<(), RunFull>
-    requires machine { IsPlainMachine machine.now }
-    requires stack { tcs.old.stack ≡ [] }
-    requires stack_in { HasStackInHost machine.now tcs.old }
-    requires port { IsPortOf machine.now (P.state port.old) }
-    requires acts { All (IsPlainCall machine.now.interface) acts.now }
-    ensures ok { OnOk result ((out : Outcome) × Runs (thread machine.now (context_of tcs.old) acts.now)
-        (moment (P.state port.old) records.old tcs.old) (moment (P.state port.new) records.new tcs.new) out
-        × (records.new ≡ with_records records.old out.records)
-        × (tcs.new ≡ record tcs.old { waits = tcs.new.waits })) }
-    ensures full { IfErr result (λ full. StopsAt full (thread machine.now (context_of tcs.old) acts.now)
-        (moment (P.state port.old) records.old tcs.old) (P.state port.new)) }
-{
-    for act in acts {
-        let HostAct::Call { ordinal, args } = act else {
-            unreachable!();
-        };
-        call(machine, tcs, port, *ordinal, args.as_slice(), records)?;
-    }
     Ok(())
 }

@@ -1,6 +1,7 @@
 //! Entries, OCALLs and what the host does, over an interface and a script.
 #![tactic(auto)]
 
+mod acts;
 mod arguments;
 mod bodies;
 mod entry;
@@ -14,9 +15,9 @@ mod tcs;
 
 use call_script::Script;
 use edl_interface::Interface;
+pub use acts::run_thread;
 pub use entry::ecall;
 pub use fields::{check_fields, check_frame};
-pub use host::run_thread;
 pub use report_laws::one_report_law;
 pub use run::{RECORD_LIMIT, RunFault, STEP_LIMIT, first_acts, first_port, first_tcs, run_machine};
 pub use tcs::Tcs;

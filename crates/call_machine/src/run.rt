@@ -1,8 +1,8 @@
 //! A machine run by one thread, and its report.
 
-ghost use Rattle.std.specs.Prelude.{◌≡◌, ◌≤◌, ◌+◌, ◌/◌, [], All, IfOk, IfErr};
+ghost use Rattle.std.specs.Prelude.{◌≡◌, ◌≤◌, ◌+◌, ◌/◌, [], IfOk, IfErr};
 ghost use Rattle.sgx_base.specs.Ranges.{host_start};
-ghost use Rattle.call_machine.specs.PlainScript.{IsPlainCall, ArePlainSettings};
+ghost use Rattle.call_machine.specs.PlainScript.{AreThreadActs, ArePlainSettings};
 ghost use Rattle.call_machine.specs.Plain.{IsPlainMachine};
 ghost use Rattle.call_machine.specs.Reported.{IsReportOf, acts_at};
 ghost use Rattle.call_machine.specs.Run.{IsRunFault};
@@ -43,10 +43,11 @@ impl From<AllocError> for RunFault {
 }
 
 /// What thread 0 does.
+#[tactic(auto, using(crate::proofs::ThreadActs::thread_acts))]
 pub fn first_acts(machine: &Machine) -> &[HostAct]
     requires { IsPlainMachine machine.now }
     ensures acts { result.now ≡ acts_at machine.now 0 }
-    ensures calls { All (IsPlainCall machine.now.interface) result.now }
+    ensures sound { AreThreadActs machine.now.interface machine.now.script.settings.host result.now }
 {
     machine.script.threads.as_slice()[0].as_slice()
 }

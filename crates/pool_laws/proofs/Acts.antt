@@ -27,15 +27,15 @@ module _ (limit : ℕ) (Among : ℕ → Type 0) (slot : ℕ) (interface : Interf
   abbrev Visits : {A : Type 0} → Interaction A → Type 0
   Visits t = ByRoles limit Among slot t
 
-  stores_mapped : (address : ℕ) (bytes : List ℕ) → AllRequests (IsBelow limit) (mapped_stores actor address bytes)
+  stores_mapped : (address : ℕ) (bytes : List ℕ) → AllRequests (IsBelow limit) (mapped_stores actor.side actor.host address bytes)
   stores_mapped address [] = tt
   stores_mapped address (b ∷ bytes) = by_mapped (is_mapped actor.host address 1) refl
       (stores_mapped (address + 1) bytes)
     where
       by_mapped : (c : Bool) → is_mapped actor.host address 1 ≡ c
-          → AllRequests (IsBelow limit) (mapped_stores actor (address + 1) bytes)
+          → AllRequests (IsBelow limit) (mapped_stores actor.side actor.host (address + 1) bytes)
           → AllRequests (IsBelow limit) (if c then and_then (swap actor.side (word_at address) b)
-          (λ old. mapped_stores actor (address + 1) bytes) else mapped_stores actor (address + 1) bytes)
+          (λ old. mapped_stores actor.side actor.host (address + 1) bytes) else mapped_stores actor.side actor.host (address + 1) bytes)
       by_mapped true is more = (
         (
           beside,
@@ -46,14 +46,14 @@ module _ (limit : ℕ) (Among : ℕ → Type 0) (slot : ℕ) (interface : Interf
       )
       by_mapped false is more = more
 
-  loads_mapped : (address count : ℕ) → AllRequests (IsBelow limit) (mapped_loads actor address count)
+  loads_mapped : (address count : ℕ) → AllRequests (IsBelow limit) (mapped_loads actor.side actor.host address count)
   loads_mapped address zero = tt
   loads_mapped address (suc count) = by_mapped (is_mapped actor.host address 1) refl (loads_mapped (address + 1) count)
     where
       by_mapped : (c : Bool) → is_mapped actor.host address 1 ≡ c
-          → AllRequests (IsBelow limit) (mapped_loads actor (address + 1) count)
+          → AllRequests (IsBelow limit) (mapped_loads actor.side actor.host (address + 1) count)
           → AllRequests (IsBelow limit) (if c then and_then (load actor.side (word_at address))
-          (λ b. mapped_loads actor (address + 1) count) else mapped_loads actor (address + 1) count)
+          (λ b. mapped_loads actor.side actor.host (address + 1) count) else mapped_loads actor.side actor.host (address + 1) count)
       by_mapped true is more = (
         (
           beside,
@@ -64,12 +64,12 @@ module _ (limit : ℕ) (Among : ℕ → Type 0) (slot : ℕ) (interface : Interf
       )
       by_mapped false is more = more
 
-  peeks : (address count : ℕ) → Visits (peek actor address count)
+  peeks : (address count : ℕ) → Visits (peek actor.side actor.host actor.depth address count)
   peeks address count =
       roles_record limit Among slot _ (roles_here limit Among slot _ (λ first.
-      roles_then limit Among slot (mapped_loads actor address count) (λ done. _)
-      (roles_below limit Among slot (mapped_loads actor address count) (loads_mapped address count)) (λ done.
-      roles_here limit Among slot _ (λ last. roles_ret limit Among slot (peek_record actor address first last ∷ [])))))
+      roles_then limit Among slot (mapped_loads actor.side actor.host address count) (λ done. _)
+      (roles_below limit Among slot (mapped_loads actor.side actor.host address count) (loads_mapped address count)) (λ done.
+      roles_here limit Among slot _ (λ last. roles_ret limit Among slot (peek_record actor.depth address first last ∷ [])))))
 
   status_kept : (status : Status) (t : Interaction (List CallRecord)) → Visits t → Visits (with_status status t)
   status_kept status t h = roles_map limit Among slot (λ records. record { status = status; records = records }) t h
@@ -103,9 +103,9 @@ module _ (limit : ℕ) (Among : ℕ → Type 0) (slot : ℕ) (interface : Interf
     one_act (Call ordinal args) fit status = status_kept status (actor.calls ordinal args) (calls ordinal args fit)
     one_act (Raw ordinal address) fit status = status_kept status (actor.raw_calls ordinal address)
         (raw_calls ordinal address)
-    one_act (Poke place bytes) fit status = no_calls status (mapped_stores actor (address_of actor place) bytes)
+    one_act (Poke place bytes) fit status = no_calls status (mapped_stores actor.side actor.host (address_of actor place) bytes)
         (stores_mapped (address_of actor place) bytes)
-    one_act (Peek place count) fit status = status_kept status (peek actor (address_of actor place) count)
+    one_act (Peek place count) fit status = status_kept status (peek actor.side actor.host actor.depth (address_of actor place) count)
         (peeks (address_of actor place) count)
     one_act (Return n) fit status =
         no_calls status (stores actor.side actor.frame (low_bytes actor.return_size n))

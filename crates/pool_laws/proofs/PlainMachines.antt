@@ -1,8 +1,7 @@
 -- The machines that the engine runs are such machines.
-use Rattle.std.proofs.Common.{ℕ, zero, suc, ◌≡◌, List, [], ◌∷◌, length, Some, slice_get, All, refl, ap, sym, ◌∙◌, subst, arith}
+use Rattle.std.proofs.Common.{ℕ, zero, suc, ◌-◌, ◌*◌, ◌≡◌, List, [], ◌∷◌, length, Some, slice_get, refl, ap, sym, ◌∙◌, subst, arith}
 use Rattle.std.specs.Prelude.{unwrap_or, option_map}
 use Rattle.std.specs.List.{AllZip}
-use Rattle.std.proofs.lemmas.List.Elements.{All-head, All-tail}
 use Rattle.edl_interface.specs.declared.Class.{Class}
 use Rattle.edl_interface.specs.declared.Class.TheVariants.{Plain as by_value, UserCheck, Buffer, Text, Fixed, Foreign}
 use Rattle.edl_interface.specs.declared.Param.{Param}
@@ -14,14 +13,16 @@ use Rattle.body_vm.specs.declared.Action.TheVariants.{Cload, Cswap, Cadd, Ccas}
 use Rattle.body_vm.specs.declared.Body.{Body}
 use Rattle.call_script.specs.declared.CallArg.{CallArg}
 use Rattle.call_script.specs.declared.CallArg.TheVariants.{At, Null, Number, Bytes}
-use Rattle.call_script.specs.declared.HostAct.{HostAct}
-use Rattle.call_script.specs.Sound.{IsSoundAction, AreSoundActions, IsSoundBody, temporary_count}
-use Rattle.call_machine.specs.PlainScript.{IsArgument, AreArguments, IsPlainCall}
+use Rattle.call_script.specs.declared.HostAct.{HostAct, Call, Raw, Poke, Peek, Return, Reply, Repeat', Row_of-HostAct, end_of-HostAct, more_of-HostAct}
+use Rattle.call_script.specs.Faults.{max_nesting}
+use Rattle.call_script.specs.Sound.{IsSoundAction, AreSoundActions, IsSoundBody, temporary_count, OfThread, IsSoundAct, AreSoundInRow, AreSoundActsIn}
+use Rattle.call_machine.specs.PlainScript.{IsArgument, AreArguments}
 use Rattle.call_machine.specs.declared.Machine.{Machine}
 use Rattle.call_machine.specs.Plain.{IsPlainMachine}
 use Rattle.call_machine.specs.Reported.{acts_at}
 use Rattle.call_machine.proofs.SoundMachines.{plain_sound}
-use Rattle.pool_laws.specs.Machines.{IsOnCells, AreOnCells, FillsField, FillFields, IsFittingAct, AreFitting, IsBoundedMachine, HasStackFor}
+use Rattle.call_machine.proofs.ThreadActs.{arguments}
+use Rattle.pool_laws.specs.Machines.{IsOnCells, AreOnCells, FillsField, FillFields, IsFittingAct, AreFittingRow, AreFitting, IsBoundedMachine, HasStackFor}
 
 module _ (i : Interface) (count : ℕ) (f : Function) (temporaries : ℕ) where
   on_cells : (left : ℕ) (a : Action) → IsSoundAction i count f temporaries left a → IsOnCells count a
@@ -66,21 +67,34 @@ arguments_fill [] args h = tt
 arguments_fill (p ∷ params) [] h = tt
 arguments_fill (p ∷ params) (arg ∷ args) h = (argument_fills p p.class arg refl h.0, arguments_fill params args h.1)
 
-call_fits : (i : Interface) (act : HostAct) → IsPlainCall i act → IsFittingAct i act
-call_fits i act h = subst (λ a. IsFittingAct i a) (sym h.act_is) by_found
-  where
-    by_found : (f : Function) → slice_get i.ecalls h.ordinal ≡ Some f → FillFields f.params h.args
-    by_found f found =
-        let same : Some h.function ≡ Some f = sym h.found ∙ found in
-        let one : h.function ≡ f = cc in
-        subst (λ g. FillFields g.params h.args) one (arguments_fill h.function.params h.args h.fits)
+mutual
+  act_fits : (i : Interface) (size nesting around : ℕ) (act : HostAct) → IsSoundAct i size OfThread act nesting around → IsFittingAct i act
+  act_fits i size nesting around (Call ordinal args) h = λ f found.
+      let same : Some h.function ≡ Some f = sym h.found ∙ found in
+      let one : h.function ≡ f = cc in
+      subst (λ g. FillFields g.params args) one
+      (arguments_fill h.function.params args (arguments h.function.params args h.fits))
+  act_fits i size nesting around (Raw ordinal address) h = tt
+  act_fits i size nesting around (Poke place bytes) h = tt
+  act_fits i size nesting around (Peek place count) h = tt
+  act_fits i size nesting around (Return n) h = tt
+  act_fits i size nesting around (Reply n) h = tt
+  act_fits i size nesting around (Repeat' times shape acts) h = row_fits i size (nesting - 1) (around * times) acts h.1
 
-acts_fit : (i : Interface) (acts : List HostAct) → All (IsPlainCall i) acts → AreFitting i acts
-acts_fit i [] h = tt
-acts_fit i (act ∷ acts) h = (
-  call_fits i act (All-head (IsPlainCall i) act acts h),
-  acts_fit i acts
-      (All-tail (IsPlainCall i) act acts h),
+  row_fits : (i : Interface) (size nesting around : ℕ) {n : _} (row : Row_of-HostAct n)
+      → AreSoundInRow i size OfThread row nesting around → AreFittingRow i row
+  row_fits i size nesting around end_of-HostAct h = tt
+  row_fits i size nesting around (more_of-HostAct act rest) h = (
+    act_fits i size nesting around act h.0,
+    row_fits i size nesting around rest h.1,
+  )
+
+acts_fit : (i : Interface) (size nesting around : ℕ) (acts : List HostAct)
+    → AreSoundActsIn i size OfThread acts nesting around → AreFitting i acts
+acts_fit i size nesting around [] h = tt
+acts_fit i size nesting around (act ∷ acts) h = (
+  act_fits i size nesting around act h.0,
+  acts_fit i size nesting around acts h.1,
 )
 
 module _ (m : Machine) (plain : IsPlainMachine m) where
@@ -102,7 +116,7 @@ module _ (m : Machine) (plain : IsPlainMachine m) where
 
   pub plain_acts : AreFitting m.interface (acts_at m 0)
   plain_acts = subst (λ threads. AreFitting m.interface (unwrap_or (slice_get threads 0) []))
-      (sym plain.script.threads) (acts_fit m.interface plain.script.acts plain.script.calls)
+      (sym plain.script.threads) (acts_fit m.interface m.script.settings.host max_nesting 1 plain.script.acts plain.script.sound)
 
   pub plain_stack : HasStackFor m.script.settings 0
   plain_stack = let fits = plain.script.settings.stack_fits in omega (arith, fits)

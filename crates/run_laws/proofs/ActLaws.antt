@@ -82,23 +82,23 @@ module _ (m : Machine) (cx : Context) where
   module _ (actor : Actor) (other : ¬ (actor.side ≡ Enclave)) (depth_is : actor.depth ≡ depth_of cx)
       (calls : (before : List Step) (ordinal : ℕ) (args : List CallArg) → ProtectsRecords before (actor.calls ordinal args))
       (raw_calls : (before : List Step) (ordinal address : ℕ) → ProtectsRecords before (actor.raw_calls ordinal address)) where
-    stores_elsewhere : (address : ℕ) (bytes : List ℕ) → AllRequests IsElsewhere (mapped_stores actor address bytes)
+    stores_elsewhere : (address : ℕ) (bytes : List ℕ) → AllRequests IsElsewhere (mapped_stores actor.side actor.host address bytes)
     stores_elsewhere address [] = tt
     stores_elsewhere address (b ∷ bytes) =
-        elim (is_mapped actor.host address 1) as (λ c. AllRequests IsElsewhere (if c then and_then (swap actor.side (word_at address) b) (λ old. mapped_stores actor (address + 1) bytes) else mapped_stores actor (address + 1) bytes)) [
+        elim (is_mapped actor.host address 1) as (λ c. AllRequests IsElsewhere (if c then and_then (swap actor.side (word_at address) b) (λ old. mapped_stores actor.side actor.host (address + 1) bytes) else mapped_stores actor.side actor.host (address + 1) bytes)) [
           | true ↦ (record { not_enclave = other }, λ old. stores_elsewhere (address + 1) bytes)
           | false ↦ stores_elsewhere (address + 1) bytes
         ]
 
-    loads_elsewhere : (address n : ℕ) → AllRequests IsElsewhere (mapped_loads actor address n)
+    loads_elsewhere : (address n : ℕ) → AllRequests IsElsewhere (mapped_loads actor.side actor.host address n)
     loads_elsewhere address zero = tt
     loads_elsewhere address (suc n) =
-        elim (is_mapped actor.host address 1) as (λ c. AllRequests IsElsewhere (if c then and_then (load actor.side (word_at address)) (λ b. mapped_loads actor (address + 1) n) else mapped_loads actor (address + 1) n)) [
+        elim (is_mapped actor.host address 1) as (λ c. AllRequests IsElsewhere (if c then and_then (load actor.side (word_at address)) (λ b. mapped_loads actor.side actor.host (address + 1) n) else mapped_loads actor.side actor.host (address + 1) n)) [
           | true ↦ (record { not_enclave = other }, λ old. loads_elsewhere (address + 1) n)
           | false ↦ loads_elsewhere (address + 1) n
         ]
 
-    peek_protected : (address first last : ℕ) (log : List Step) (among : List Call) → IsProtectedCall m among log (record { made = peek_record actor address first last; context = cx })
+    peek_protected : (address first last : ℕ) (log : List Step) (among : List Call) → IsProtectedCall m among log (record { made = peek_record actor.depth address first last; context = cx })
     peek_protected address first last log among = record {
       depth_is = depth_is;
       ecall = λ kind way. let no : peek_kind ≡ Ecall = kind in cc;
@@ -106,15 +106,15 @@ module _ (m : Machine) (cx : Context) where
       ocall = λ kind. let no : peek_kind ≡ Ocall = kind in cc;
     }
 
-    peeks : (before : List Step) (address n : ℕ) → ProtectsRecords before (peek actor address n)
+    peeks : (before : List Step) (address n : ℕ) → ProtectsRecords before (peek actor.side actor.host actor.depth address n)
     peeks before address n =
         let Q : List Step → List CallRecord → Type 0 = λ steps records. Protects m (IsMadeIn cx) before steps records in
         let first : ℕ = length before in
-        ensures_tick before Q new_record _ (ensures_here before Q _ (elsewhere_then before Q (mapped_loads actor address n) _ (loads_elsewhere address n) (λ steps x h.
+        ensures_tick before Q new_record _ (ensures_here before Q _ (elsewhere_then before Q (mapped_loads actor.side actor.host address n) _ (loads_elsewhere address n) (λ steps x h.
         ensures_here (before ++ steps) (λ more records. Q (steps ++ more) records) _
-        (ensures_ret (before ++ steps) (λ more records. Q (steps ++ more) records) (peek_record actor address first (length (before ++ steps)) ∷ [])
-        (subst (λ l. Q l (peek_record actor address first (length (before ++ steps)) ∷ [])) (sym (append-nil steps))
-        (protects_one m (IsMadeIn cx) before steps (record { made = peek_record actor address first (length (before ++ steps)); context = cx }) h (inl refl) (omega arith, let grown = length-append before steps in omega (arith, grown))
+        (ensures_ret (before ++ steps) (λ more records. Q (steps ++ more) records) (peek_record actor.depth address first (length (before ++ steps)) ∷ [])
+        (subst (λ l. Q l (peek_record actor.depth address first (length (before ++ steps)) ∷ [])) (sym (append-nil steps))
+        (protects_one m (IsMadeIn cx) before steps (record { made = peek_record actor.depth address first (length (before ++ steps)); context = cx }) h (inl refl) (omega arith, let grown = length-append before steps in omega (arith, grown))
         (peek_protected address first (length (before ++ steps)) (before ++ steps) _)))))))
 
     repeats : (times : ℕ) (act : Status → Interaction Outcome) → ((before : List Step) (status : Status) → ProtectsOutcome before (act status))
@@ -127,8 +127,8 @@ module _ (m : Machine) (cx : Context) where
       act_protected (by_ordinal ordinal args) before status = status_kept before status (actor.calls ordinal args) (calls before ordinal args)
       act_protected (Raw ordinal address) before status = status_kept before status (actor.raw_calls ordinal address) (raw_calls before ordinal address)
       act_protected (Poke place bytes) before status =
-          status_kept before status (map_value no_records (mapped_stores actor (address_of actor place) bytes)) (no_calls before (mapped_stores actor (address_of actor place) bytes) (stores_elsewhere (address_of actor place) bytes))
-      act_protected (Peek place count) before status = status_kept before status (peek actor (address_of actor place) count) (peeks before (address_of actor place) count)
+          status_kept before status (map_value no_records (mapped_stores actor.side actor.host (address_of actor place) bytes)) (no_calls before (mapped_stores actor.side actor.host (address_of actor place) bytes) (stores_elsewhere (address_of actor place) bytes))
+      act_protected (Peek place count) before status = status_kept before status (peek actor.side actor.host actor.depth (address_of actor place) count) (peeks before (address_of actor place) count)
       act_protected (Return n) before status =
           let t : Interaction (Unit {0}) = stores actor.side actor.frame (low_bytes actor.return_size n) in
           status_kept before status (map_value no_records t) (no_calls before t (side_stores actor.side other actor.frame (low_bytes actor.return_size n)))

@@ -4,14 +4,15 @@ use Rattle.edl_interface.specs.Parameters.{has_frame}
 use Rattle.call_machine.specs.Plain.{IsPlainFunction}
 use Rattle.call_machine.specs.Tcs.{context_of}
 use Rattle.call_machine.proofs.HostFrames.{all_at}
-use Rattle.call_machine.proofs.HostCalls.{call_fits, frameless_cut, frameless_made}
+use Rattle.call_machine.proofs.HostCalls.{frameless_cut, frameless_made}
+use Rattle.call_machine.proofs.ThreadActs.{call_fits}
 use Rattle.call_machine.proofs.host.call.Goals as goal
 
 pub call_framed-requires-clause-plain : goal.call_framed-requires-clause-plain
 call_framed-requires-clause-plain g c = all_at IsPlainFunction c.args.machine.now.interface.ecalls c.args.ordinal c.in-Some.function.now c.requires.machine.interface.functions (sym c.in-Some.ensures.value)
 
 pub call_framed-requires-clause-args : goal.call_framed-requires-clause-args
-call_framed-requires-clause-args g c = call_fits c.args.machine.now.interface c.args.ordinal c.args.args.now c.in-Some.function.now c.requires.act (sym c.in-Some.ensures.value)
+call_framed-requires-clause-args g c = call_fits c.args.machine.now.interface c.args.machine.now.script.settings.host c.args.ordinal c.args.args.now c.in-Some.function.now c.requires.sound (sym c.in-Some.ensures.value)
 
 pub returns-in_err-ecall-clause-full : goal.returns-in_err-ecall-clause-full
 returns-in_err-ecall-clause-full g c =
