@@ -13,9 +13,9 @@ mod run;
 mod strings;
 mod tcs;
 
+pub use acts::run_thread;
 use call_script::Script;
 use edl_interface::Interface;
-pub use acts::run_thread;
 pub use entry::ecall;
 pub use fields::{check_fields, check_frame};
 pub use report_laws::one_report_law;

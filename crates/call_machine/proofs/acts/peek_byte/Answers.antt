@@ -12,6 +12,9 @@ returns-clause-ok g c =
 pub returns-clause-full : goal.returns-clause-full
 returns-clause-full g c =
     if_err_map c.load_bytes.result _ _
-    (λ full cut. (cut.0, peek_stopped c.args.side (g.P.WordPort.state c.args.port.now).host c.host.result c.args.at c.args.past c.from.result c.in-Some.address _ _
-    c.in-Some.ensures.0 c.from.ensures c.host.ensures.count c.in-Some.ensures.1 cut.1))
+    (λ full cut. (
+      cut.0,
+      peek_stopped c.args.side (g.P.WordPort.state c.args.port.now).host c.host.result c.args.at c.args.past c.from.result c.in-Some.address _ _
+          c.in-Some.ensures.0 c.from.ensures c.host.ensures.count c.in-Some.ensures.1 cut.1,
+    ))
     c.load_bytes.ensures.full
