@@ -1,5 +1,5 @@
 -- The record of a peek, from its place in the list to its end.
-use Rattle.std.proofs.Common.{ℕ, ◌+◌, ◌≡◌, ◌<◌, List, [], ◌∷◌, length, slice_set, refl, ap, sym, ◌∙◌, subst}
+use Rattle.std.proofs.Common.{ℕ, ◌+◌, ◌≡◌, ◌<◌, List, [], ◌∷◌, length, slice_set, refl, ap, ◌∙◌}
 use Rattle.sgx_base.specs.declared.TheConstants.Status.{SUCCESS}
 use Rattle.word_port.specs.declared.Side.TheVariants.{Host}
 use Rattle.word_port.specs.declared.RunFull.TheVariants.{Steps, Records}
@@ -15,7 +15,7 @@ use Rattle.call_report.specs.declared.CallRecord.{CallRecord}
 use Rattle.call_report.specs.RecordList.{RecordList, records_left, with_records}
 use Rattle.call_machine.specs.Acts.{mapped_loads, peek_record, peek}
 use Rattle.call_machine.specs.Made.{MakesCalls}
-use Rattle.call_machine.specs.Tcs.{TcsState, moment}
+use Rattle.call_machine.specs.Tcs.{TcsState}
 use Rattle.call_machine.proofs.EcallRecord.{record_set, one_record_less}
 
 module _ (host depth address count : ℕ) where
