@@ -4,6 +4,7 @@ pub mod EntryLaws
 pub mod KeepingLaws
 pub mod Lengths
 pub mod LoadsAlone
+pub mod LocalBodies
 pub mod OcallLaws
 pub mod QuietBodies
 pub mod RunParts

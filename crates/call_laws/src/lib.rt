@@ -7,9 +7,11 @@ ghost use Rattle.word_port.specs.Events.{Event};
 ghost use Rattle.word_port.specs.Interaction.{IsRun};
 ghost use Rattle.call_machine.specs.declared.Machine.{Machine};
 ghost use Rattle.call_machine.specs.Context.{Context};
+ghost use Rattle.call_machine.specs.Plain.{IsPlainMachine};
 ghost use Rattle.call_machine.specs.Ecall.{Ocalls, Answered, actions_of, entered};
 ghost use Rattle.call_laws.specs.Answering.{IsAnsweredRun};
 ghost use Rattle.call_laws.specs.Examples.{Examples};
+ghost use Rattle.call_laws.specs.Local.{IsLocal, IsLocalCall};
 ghost use Rattle.call_laws.specs.Refusing.{IsRefusedRun};
 ghost use Rattle.call_laws.specs.Undisturbed.{AreLegal, IsUndisturbedRun, AreQuietActions, IsQuiet, IsDirectCall};
 
@@ -35,7 +37,8 @@ pub fn refused_run_law()
 
 /// Where the steps of an answered entry are a legal history with no race between them, each `in` copy is the bytes of
 /// the words that it began with, and its body has the room that they leave. For a body that asks for nothing the words
-/// afterwards are the same ones, with the return and then the `out` copies written.
+/// afterwards are the same ones, with the return and then the `out` copies written; for one that makes no OCALL
+/// those of host memory are so, whatever it does to its cells.
 pub fn no_races_law()
     ensures copies { (m : Machine) (ocalls : Ocalls) (cx : Context) (ordinal address : ℕ)
         (words : List ℕ) (events : List Event) (done : Answered)
@@ -45,6 +48,15 @@ pub fn no_races_law()
         (words : List ℕ) (events : List Event) (done : Answered) → IsQuiet m ordinal
         → IsRun (entered m ocalls cx ordinal address) events (Ok done) → AreLegal words events
         → IsDirectCall m cx ordinal address words events }
+    ensures local { (m : Machine) (ocalls : Ocalls) (cx : Context) (ordinal address : ℕ)
+        (words : List ℕ) (events : List Event) (done : Answered) → IsLocal m ordinal
+        → IsRun (entered m ocalls cx ordinal address) events (Ok done) → AreLegal words events
+        → IsLocalCall m ocalls cx ordinal address words events }
+{}
+
+/// The bodies of a machine that the engine runs make no OCALL.
+pub fn local_bodies_law()
+    ensures { (m : Machine) (ordinal : ℕ) → IsPlainMachine m → IsLocal m ordinal }
 {}
 
 /// A body with no step on a cell and no OCALL among its actions asks for nothing.
