@@ -1,5 +1,5 @@
 -- How a call ends, what it answers then, and where nothing fails.
-use Rattle.std.proofs.Common.{ℕ, ◌≡◌, inl, inr, List, [], ◌∷◌, length, Option, Some, None, Result, Ok, Err, IfOk, IfSome, OnOk, OnErr, refl, sym, ◌∙◌, ap, subst, get_or, arith, ◌≤◌, ◌<◌, Bool, true, false}
+use Rattle.std.proofs.Common.{ℕ, ◌≡◌, inl, inr, List, [], ◌∷◌, length, Option, Some, Result, Ok, Err, IfOk, IfSome, OnOk, OnErr, refl, sym, ◌∙◌, ap, subst, get_or, arith, ◌≤◌, ◌<◌, Bool, true, false}
 use Rattle.std.specs.Prelude.{if◌then◌else◌, codes}
 use Rattle.std.specs.Str.{bytes_eq}
 use Rattle.sgx_base.specs.Outcome.{OrMemory}
@@ -14,8 +14,8 @@ use Rattle.call_engine.specs.declared.faults.PrepareFault.TheVariants.{Edl as of
 use Rattle.call_engine.specs.Prepared.{FilesGive, Prepares}
 use Rattle.callrun.specs.declared.Ending.{Ending}
 use Rattle.callrun.specs.declared.Ending.TheVariants.{Usage, Edl, Script, Unread, Missing, Done, Cut}
-use Rattle.edl_reader.specs.Paths.{directories}
-use Rattle.callrun.specs.Endings.{Names, Task, Nothing, Run, Sample, named, task_of, task_of_two, sample_names, HasCause, HasSampleCause, EndsBy, Ends, status_of, text_of}
+use Rattle.command_line.specs.SearchPath.{directories}
+use Rattle.callrun.specs.Endings.{Names, Task, Nothing, named, task_of, sample_names, HasCause, HasSampleCause, EndsBy, Ends, status_of, text_of}
 use Rattle.callrun.specs.Samples.{texts, sample_files}
 use Rattle.callrun.specs.Told.{Telling, report, summary}
 use Rattle.sample_script.specs.Sample.{sample}

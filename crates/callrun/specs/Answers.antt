@@ -13,7 +13,7 @@ use Rattle.sample_script.specs.Sample.{sample}
 use Rattle.callrun.specs.declared.Ending.{Ending}
 use Rattle.callrun.specs.declared.Ending.TheVariants.{Usage, Edl, Script, Unread, Missing, Done, Cut}
 use Rattle.callrun.specs.Samples.{texts}
-use Rattle.callrun.specs.Endings.{Names, Task, Run, Sample, task_of, sample_names, Ends, text_of, usage_line, full_line}
+use Rattle.callrun.specs.Endings.{Names, Run, Sample, task_of, sample_names, Ends, text_of, usage_line, full_line}
 
 -- the call came to an ending, with its cause, and of the text of it a part was written
 pub record IsBroken (words : List (List ℕ)) (before after : FilesState) (old new : SinkState) : Type 0 where

@@ -1,6 +1,6 @@
 mod CallRows
-mod Calls
-mod Head
-mod Placed
+pub mod Calls
+pub mod Head
+pub mod Placed
 mod Texts
-mod Words
+pub mod Words

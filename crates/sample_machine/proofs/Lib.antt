@@ -1,0 +1,4 @@
+mod EdlText
+mod Foreign
+mod Machines
+mod PlainScripts
