@@ -62,7 +62,7 @@ impl CallStack {
     }
 
     /// The OCALL in progress on the latest entry.
-    pub(crate) fn current_ocall(&self) -> Option<u32>
+    pub fn current_ocall(&self) -> Option<u32>
         ensures { result ≡ current_ocall self.now }
     {
         self.entries.as_slice().last()?.ocall
