@@ -7,10 +7,10 @@ ghost use Rattle.word_port.specs.Port.{with_steps, HasRoom};
 ghost use Rattle.word_port.specs.Requests.{step_of};
 ghost use Rattle.body_vm.specs.Range.{AreInRange};
 ghost use Rattle.body_vm.specs.Places.{IsHeld};
-ghost use Rattle.body_vm.specs.Moments.{moment, state_at, execution_at, IsOnward};
+ghost use Rattle.body_vm.specs.Moments.{moment, state_at, execution_at, IsOnward, IsFurther};
 ghost use Rattle.call_copy.specs.Stops.{IsCutShort};
 ghost use Rattle.body_run.specs.Cells.{cell_step, over_cells, HaveCells, AreUsed};
-ghost use Rattle.body_run.specs.Running.{Pauses};
+ghost use Rattle.body_run.specs.Running.{Pauses, need_of};
 
 use body_vm::{Blocks, Body, Need, Regs, Values, answer, run_until};
 use enclave_memory::{Arena, Args};
@@ -90,6 +90,7 @@ pub fn run_on<P: WordPort>(
         (execution_at body.now.actions values.now.items regs.old blocks.old.items arena.old numbers))
         (P.state port.old) (P.state port.new)) }
     ensures next { regs.new.next ≤ length body.now.actions }
+    ensures further { IfOk result (λ pause. IsFurther (need_of pause) regs.old.next regs.new.next) }
     ensures count { array_vec_len blocks.new ≡ array_vec_len blocks.old }
 {
     loop {

@@ -20,10 +20,9 @@ use Rattle.call_machine.specs.declared.Machine.{Machine}
 use Rattle.call_engine.specs.declared.faults.PrepareFault.{PrepareFault}
 use Rattle.call_engine.specs.declared.faults.PrepareFault.TheVariants.{Edl, Script as of_line, NotFound, ReadFault, Memory}
 use Rattle.call_engine.specs.Told.{of_source, IsEdlFault, IsFaultOf}
-use Rattle.call_engine.specs.Interfaces.{AreKnown, IsTaken, IsUntaken, broken, other, not_taken}
-use Rattle.call_engine.specs.Taken.{is_taken}
+use Rattle.call_engine.specs.Interfaces.{AreKnown}
 use Rattle.call_engine.specs.Plain.{plain_script}
-use Rattle.call_engine.specs.Prepared.{Prepares, ungathered, no_script, untaken, faulty, machine, IsInterface, in_types, in_script, IsMachineOf, IsMachineFault, FilesGive, IsUnprepared, IsUnread}
+use Rattle.call_engine.specs.Prepared.{Prepares, ungathered, no_script, without_interface, faulty, machine, IsInterface, in_types, in_script, IsMachineOf, IsMachineFault, FilesGive, IsUnprepared, IsUnread}
 
 -- where the contents are told, one fact follows from two others
 both : {P Q R : Store → Type 0} (contents : Option Store) → ((store : Store) → P store → Q store → R store) → IfSome contents P → IfSome contents Q → IfSome contents R
@@ -69,20 +68,6 @@ edl_weaker files P Q step (NotFound name) h = absurd h
 edl_weaker files P Q step (ReadFault name) h = absurd h
 edl_weaker files P Q step Memory h = absurd h
 
-module _ (g : Gathered) (foreign : ForeignTypes) where
-  -- the files break a rule
-  pub broken_told : (fault : PrepareFault) → OrMemory Memory (IsEdlFault g.files (IsRefused g foreign true)) fault
-      → OrMemory Memory (IsEdlFault g.files (IsUntaken g foreign)) fault
-  broken_told fault = or_memory (edl_weaker g.files (IsRefused g foreign true) (IsUntaken g foreign) (λ f. broken) fault)
-
-  -- the runner does not take their interface
-  pub other_told : (i : Interface) → IsAccepted g foreign true i → is_taken i ≡ false → (files : List SourceFile)
-      → files ≡ g.files → (fault : PrepareFault) → OrMemory Memory (IsEdlFault files (λ f. f ≡ not_taken)) fault
-      → OrMemory Memory (IsEdlFault g.files (IsUntaken g foreign)) fault
-  other_told i accepted taken files same fault h =
-      or_memory (edl_weaker g.files (λ f. f ≡ not_taken) (IsUntaken g foreign) (λ f. other i accepted taken) fault)
-      (subst (λ fs. OrMemory Memory (IsEdlFault fs (λ f. f ≡ not_taken)) fault) same h)
-
 -- ---- the gathering
 
 module _ (racing : Bool) (paths : List (List ℕ)) (edl script : List ℕ) (before after : FilesState) where
@@ -120,17 +105,17 @@ module _ (racing : Bool) (g : Gathered) (text : List ℕ) where
   misdeclared fault = or_memory (types_fault fault)
 
   files_fault : (foreign : ForeignTypes) → foreign_types text ≡ Ok foreign → (fault : PrepareFault)
-      → IsEdlFault g.files (IsUntaken g foreign) fault → IsMachineFault racing g text fault
+      → IsEdlFault g.files (IsRefused g foreign true) fault → IsMachineFault racing g text fault
   files_fault foreign declared (Edl name f) h =
-      (h.0, record { foreign = foreign; declared = declared; untaken = h.1 })
+      (h.0, record { foreign = foreign; declared = declared; refused = h.1 })
   files_fault foreign declared (of_line line code) h = absurd h
   files_fault foreign declared (NotFound name) h = absurd h
   files_fault foreign declared (ReadFault name) h = absurd h
   files_fault foreign declared Memory h = absurd h
 
-  -- the files have no interface that is taken
+  -- the files have no interface
   pub no_interface : (foreign : ForeignTypes) → foreign_types text ≡ Ok foreign → (result : Result Interface PrepareFault)
-      → IfErr result (OrMemory Memory (IsEdlFault g.files (IsUntaken g foreign)))
+      → IfErr result (OrMemory Memory (IsEdlFault g.files (IsRefused g foreign true)))
       → IfErr result (OrMemory Memory (IsMachineFault racing g text))
   no_interface foreign declared (Ok i) h = tt
   no_interface foreign declared (Err fault) h = or_memory (files_fault foreign declared fault) h
@@ -150,8 +135,8 @@ module _ (racing : Bool) (g : Gathered) (text : List ℕ) where
   no_plain_script i interface fault = or_memory (script_fault i interface fault)
 
 pub an_interface : (g : Gathered) (text : List ℕ) (foreign : ForeignTypes) → foreign_types text ≡ Ok foreign
-    → (result : Result Interface PrepareFault) → IfOk result (IsTaken g foreign) → IfOk result (IsInterface g text)
-an_interface g text foreign declared (Ok i) h = record { foreign = foreign; declared = declared; taken = h }
+    → (result : Result Interface PrepareFault) → IfOk result (IsAccepted g foreign true) → IfOk result (IsInterface g text)
+an_interface g text foreign declared (Ok i) h = record { foreign = foreign; declared = declared; accepted = h }
 an_interface g text foreign declared (Err fault) h = tt
 
 -- ---- the script
@@ -198,9 +183,9 @@ module _ (racing : Bool) (paths : List (List ℕ)) (edl script : List ℕ) (g : 
   none_given : (text : List ℕ) (before after : FilesState) (fault : PrepareFault) → GivesRoot before paths edl g
       → Holds before script (Some text) → IsMachineFault racing g text fault → IsUnprepared racing paths edl script before after fault
   none_given text before after (Edl name f) root found h = (
-    inr (record { gathered = g; root = root; text = text; held = found; untaken = h.1; named = h.0 }),
+    inr (record { gathered = g; root = root; text = text; held = found; refused = h.1; named = h.0 }),
     subst (λ (n : List ℕ). FilesGive racing before paths edl script (Err (Edl n f))) (sym h.0)
-        (answered text before (Err (Edl (name_at g.files f.file) f)) root found (λ store r t. untaken g text f r t h.1)),
+        (answered text before (Err (Edl (name_at g.files f.file) f)) root found (λ store r t. without_interface g text f r t h.1)),
   )
   none_given text before after (of_line line code) root found h =
       answered text before (Err (of_line line code)) root found (λ store r t. faulty g text line code r t h)

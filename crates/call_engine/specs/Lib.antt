@@ -1,5 +1,4 @@
 pub mod Interfaces
 pub mod Plain
 pub mod Prepared
-pub mod Taken
 pub mod Told

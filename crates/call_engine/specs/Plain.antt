@@ -21,6 +21,8 @@ abbrev pub if_plain : Result Script Fault → Result Script Fault
 if_plain (Ok s) = if is_plain s then Ok s else Err not_plain
 if_plain (Err fault) = Err fault
 
--- the script that a text spells for an interface, where the engine runs it
+-- the script that a text spells for an interface: for the program without threads whatever the reader gives, for the one
+-- with threads where the engine runs it
 abbrev pub plain_script : Interface → Bool → List ℕ → Result Script Fault
-plain_script i racing text = if_plain (script_of i racing text)
+plain_script i false text = script_of i false text
+plain_script i true text = if_plain (script_of i true text)

@@ -1,5 +1,5 @@
 -- The machine that files give, or why they give none.
-use Rattle.std.specs.Prelude.{ℕ, ◌≡◌, ◌⊎◌, Bool, List, [], None, Some, IfSome, Result, Ok, Err}
+use Rattle.std.specs.Prelude.{ℕ, ◌≡◌, ◌⊎◌, Bool, true, List, [], None, Some, IfSome, Result, Ok, Err}
 use Rattle.sgx_base.specs.Stores.{Store, FilesState, Holds, ReadFailed, Missed}
 use Rattle.sgx_base.specs.declared.Fault.{Fault}
 use Rattle.edl_grammar.specs.declared.Gathered.{Gathered}
@@ -8,29 +8,29 @@ use Rattle.edl_imports.specs.ComeTo.{IsComeTo, IsWanted}
 use Rattle.edl_imports.specs.Search.{candidates}
 use Rattle.edl_imports.specs.Gathering.{name_at}
 use Rattle.edl_interface.specs.declared.Interface.{Interface}
+use Rattle.edl_reader.specs.Accepted.{IsAccepted, IsRefused}
 use Rattle.edl_reader.specs.declared.faults.SourceFault.{SourceFault}
 use Rattle.edl_reader.specs.Sources.{IsRoot, IsNoRoot, GivesRoot}
 use Rattle.script_reader.specs.Foreign.{foreign_types}
 use Rattle.call_machine.specs.declared.Machine.{Machine}
 use Rattle.call_engine.specs.declared.faults.PrepareFault.{PrepareFault}
 use Rattle.call_engine.specs.declared.faults.PrepareFault.TheVariants.{Edl, Script, NotFound, ReadFault}
-use Rattle.call_engine.specs.Interfaces.{IsTaken, IsUntaken}
 use Rattle.call_engine.specs.Plain.{plain_script}
 use Rattle.call_engine.specs.Told.{of_source}
 
 -- ---- files and a script's text
 
--- the interface that the runner takes of files, with the foreign types that a script declares
+-- the interface of files that are accepted for a run, with the foreign types that a script declares
 pub record IsInterface (g : Gathered) (text : List ℕ) (i : Interface) : Type 0 where
   pub foreign : ForeignTypes
   pub declared : foreign_types text ≡ Ok foreign
-  pub taken : IsTaken g foreign i
+  pub accepted : IsAccepted g foreign true i
 
 -- the fault of files with these foreign types
 pub record HasNoInterface (g : Gathered) (text : List ℕ) (f : Fault) : Type 0 where
   pub foreign : ForeignTypes
   pub declared : foreign_types text ≡ Ok foreign
-  pub untaken : IsUntaken g foreign f
+  pub refused : IsRefused g foreign true f
 
 -- the fault of a script at a line: of its foreign types, or, where the files give an interface, of the whole script
 pub data HasNoScript (racing : Bool) (g : Gathered) (text : List ℕ) (line code : ℕ) : Type 0 where
@@ -61,7 +61,7 @@ pub data Prepares (racing : Bool) (store : Store) (paths : List (List ℕ)) (edl
       → Prepares racing store paths edl script (Err (of_source e))
   no_script : (g : Gathered) → IsRoot store paths edl g → store script ≡ None
       → Prepares racing store paths edl script (Err (NotFound script))
-  untaken : (g : Gathered) (text : List ℕ) (f : Fault) → IsRoot store paths edl g → store script ≡ Some text
+  without_interface : (g : Gathered) (text : List ℕ) (f : Fault) → IsRoot store paths edl g → store script ≡ Some text
       → HasNoInterface g text f → Prepares racing store paths edl script (Err (Edl (name_at g.files f.file) f))
   faulty : (g : Gathered) (text : List ℕ) (line code : ℕ) → IsRoot store paths edl g → store script ≡ Some text
       → HasNoScript racing g text line code → Prepares racing store paths edl script (Err (Script line code))
@@ -79,19 +79,19 @@ IsScript files paths edl script name = (name ≡ script) × (g : Gathered) × Gi
 
 -- layouts or rules refuse the gathered files, with the script's foreign types, and the name is that of the file in which
 -- the fault stands
-pub record IsUntakenUnder (files : FilesState) (paths : List (List ℕ)) (edl script name : List ℕ) (fault : Fault)
+pub record IsRefusedUnder (files : FilesState) (paths : List (List ℕ)) (edl script name : List ℕ) (fault : Fault)
     : Type 0 where
   pub gathered : Gathered
   pub root : GivesRoot files paths edl gathered
   pub text : List ℕ
   pub held : Holds files script (Some text)
-  pub untaken : HasNoInterface gathered text fault
+  pub refused : HasNoInterface gathered text fault
   pub named : name ≡ name_at gathered.files fault.file
 
 -- a fault at a place has the name of a file that the gathering came to, or it is one of layouts or rules
 abbrev pub IsFileOf : FilesState → List (List ℕ) → List ℕ → List ℕ → List ℕ → Fault → Type 0
 IsFileOf files paths edl script name fault =
-    IsComeTo files.contents paths edl name ⊎ IsUntakenUnder files paths edl script name fault
+    IsComeTo files.contents paths edl name ⊎ IsRefusedUnder files paths edl script name fault
 
 -- Why there is no machine, where the files were so before and are so after. A missing file is one that was asked for,
 -- or the text of an import that has no candidate; it is the EDL file, the script, or the text of an import that was

@@ -2,12 +2,9 @@
 
 ghost use Rattle.std.specs.Prelude.{◌≡◌};
 ghost use Rattle.sgx_base.specs.Outcome.{OrMemory};
-ghost use Rattle.edl_imports.specs.Gathering.{name_at};
-ghost use Rattle.call_engine.specs.Interfaces.{not_taken as refusal};
 ghost use Rattle.call_engine.specs.Told as spec;
 
 use call_script::ScriptFault;
-use edl_grammar::SourceFile;
 use edl_reader::SourceFault;
 use sgx_base::{Fault, FileFault, Name};
 use std::alloc::{AllocError, Global};
@@ -37,14 +34,6 @@ impl From<AllocError> for PrepareFault {
     }
 }
 
-/// Files that the runner does not take are refused at the first byte of the root.
-const NOT_TAKEN: Fault = Fault {
-    file: 0,
-    line: 1,
-    column: 1,
-    code: 38,
-};
-
 pub(crate) fn of_source(fault: SourceFault) -> PrepareFault
     ensures { result ≡ spec.of_source fault }
 {
@@ -62,29 +51,6 @@ pub(crate) fn of_script(fault: ScriptFault) -> PrepareFault
     match fault {
         ScriptFault::Rule { line, code } => PrepareFault::Script { line, code },
         ScriptFault::Memory => PrepareFault::Memory,
-    }
-}
-
-/// The name of the first file.
-fn first_name(files: &[SourceFile]) -> &[u8]
-    ensures { result.now ≡ name_at files.now 0 }
-{
-    match files.get(0) {
-        Some(file) => file.name.bytes(),
-        None => b"",
-    }
-}
-
-/// The refusal of files that the runner does not take.
-pub(crate) fn not_taken(alloc: Global, files: &[SourceFile]) -> PrepareFault
-    ensures { OrMemory PrepareFault.Memory (spec.IsEdlFault files.now (λ f. f ≡ refusal)) result }
-{
-    match Name::new(alloc, first_name(files)) {
-        Ok(name) => PrepareFault::Edl {
-            name,
-            fault: NOT_TAKEN,
-        },
-        Err(_) => PrepareFault::Memory,
     }
 }
 

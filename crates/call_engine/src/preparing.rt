@@ -4,15 +4,17 @@ ghost use Rattle.std.specs.Prelude.{ℕ, Bool, List, ◌≤◌, ◌<◌, ◌^◌
 ghost use Rattle.sgx_base.specs.Outcome.{OrMemory};
 ghost use Rattle.sgx_base.specs.Stores.{AreOnlyRead, Holds, max_file_size};
 ghost use Rattle.edl_interface.specs.Sound.{IsSound};
+ghost use Rattle.edl_interface.specs.Runnable.{IsRunnable};
 ghost use Rattle.edl_reader.specs.Sources.{AreParsed, GivesRoot};
-ghost use Rattle.call_machine.specs.Plain.{IsPlainInterface, IsPlainMachine};
+ghost use Rattle.call_script.specs.Sound.{IsSoundScript};
+ghost use Rattle.call_machine.specs.Plain.{IsPlainMachine};
 ghost use Rattle.call_machine.specs.Sound.{IsSoundMachine};
 ghost use Rattle.call_engine.specs.Prepared.{FilesGive, IsUnprepared, IsUnread};
 ghost use Rattle.call_engine.specs.Prepared.{IsInterface, IsMachineOf, IsMachineFault};
 
 use crate::Machine;
 use crate::faults::{PrepareFault, not_found, not_read, of_source};
-use crate::interfaces::taken_interface;
+use crate::interfaces::accepted;
 use crate::scripts::{foreign_of, script_of};
 use edl_grammar::Gathered;
 use edl_interface::Interface;
@@ -61,12 +63,12 @@ fn interface_for(alloc: Global, gathered: &Gathered, text: &[u8]) -> Result<Inte
     requires short { length text.now ≤ max_file_size }
     ensures ok { IfOk result (IsInterface gathered.now text.now) }
     ensures sound { IfOk result IsSound }
-    ensures plain { IfOk result IsPlainInterface }
+    ensures runnable { IfOk result IsRunnable }
     ensures err { (racing : Bool) → IfErr result
         (OrMemory PrepareFault.Memory (IsMachineFault racing gathered.now text.now)) }
 {
     let foreign = foreign_of(alloc, text)?;
-    taken_interface(alloc, gathered, &foreign)
+    accepted(alloc, gathered, &foreign)
 }
 
 /// The machine of gathered files and of a script's text.
@@ -81,6 +83,7 @@ fn machine_of(
     requires short { length text.now ≤ max_file_size }
     ensures ok { IfOk result (IsMachineOf racing gathered.now text.now) }
     ensures plain { IfOk result IsPlainMachine }
+    ensures script { IfOk result (λ m. IsSoundScript m.interface racing m.script) }
     ensures err { IfErr result
         (OrMemory PrepareFault.Memory (IsMachineFault racing gathered.now text.now)) }
 {
@@ -102,6 +105,7 @@ pub fn prepare<F: Files>(
     racing: bool,
 ) -> Result<Machine, PrepareFault>
     ensures plain { IfOk result IsPlainMachine }
+    ensures script { IfOk result (λ m. IsSoundScript m.interface racing m.script) }
     ensures sound { IfOk result IsSoundMachine }
     ensures ok { IfOk result (λ m. FilesGive racing (F.state files.old) paths.now edl.now script.now (Ok m)) }
     ensures err { IfErr result (OrMemory PrepareFault.Memory

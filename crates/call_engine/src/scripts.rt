@@ -1,14 +1,14 @@
 //! What a script's text gives: its foreign types, and the script that the engine runs.
 
-ghost use Rattle.std.specs.Prelude.{◌≡◌, ◌≤◌, Ok, length, IfOk, IfErr};
+ghost use Rattle.std.specs.Prelude.{◌≡◌, ◌≤◌, true, Ok, length, IfOk, IfErr};
 ghost use Rattle.sgx_base.specs.Outcome.{OrMemory};
 ghost use Rattle.sgx_base.specs.Stores.{max_file_size};
 ghost use Rattle.edl_interface.specs.Sound.{IsSound};
-ghost use Rattle.call_machine.specs.PlainScript.{IsPlainScript};
 ghost use Rattle.call_script.specs.Reading.{Reads};
+ghost use Rattle.call_script.specs.Sound.{IsSoundScript};
 ghost use Rattle.script_reader.specs.Foreign.{foreign_types};
 ghost use Rattle.call_engine.specs.Interfaces.{AreKnown};
-ghost use Rattle.call_engine.specs.Plain.{plain_script};
+ghost use Rattle.call_engine.specs.Plain.{is_plain as is_plain_script, plain_script};
 ghost use Rattle.call_engine.specs.Told.{IsFaultOf};
 
 use crate::faults::{PrepareFault, of_script};
@@ -45,7 +45,8 @@ fn read_plain(
     requires sound { IsSound interface.now }
     requires short { length text.now ≤ max_file_size }
     ensures exact { Reads (plain_script interface.now racing text.now) result }
-    ensures plain { IfOk result (IsPlainScript interface.now) }
+    ensures sound { IfOk result (IsSoundScript interface.now racing) }
+    ensures plain { IfOk result (λ s. is_plain_script s ≡ true) }
 {
     let script = match read_script(alloc, text, interface, racing) {
         Ok(script) => script,
@@ -67,7 +68,8 @@ pub(crate) fn script_of(
     requires sound { IsSound interface.now }
     requires short { length text.now ≤ max_file_size }
     ensures ok { IfOk result (λ s. plain_script interface.now racing text.now ≡ Ok s) }
-    ensures plain { IfOk result (IsPlainScript interface.now) }
+    ensures sound { IfOk result (IsSoundScript interface.now racing) }
+    ensures plain { IfOk result (λ s. is_plain_script s ≡ true) }
     ensures err { IfErr result (OrMemory PrepareFault.Memory
         (IsFaultOf (plain_script interface.now racing text.now))) }
 {

@@ -156,7 +156,7 @@ module _ (i : Interface) (count : ℕ) (none : i.ocalls ≡ []) where
   local_body (f ∷ fs) (b ∷ bodies) zero are = local_actions f (temporary_count b) b.actions are.0.actions
   local_body (f ∷ fs) (b ∷ bodies) (suc n) are = local_body fs bodies n are.1
 
-pub local_bodies : (m : Machine) (ordinal : ℕ) → IsPlainMachine m → IsLocal m ordinal
+pub local_bodies : (m : Machine) (ordinal : ℕ) → IsPlainMachine m → m.interface.ocalls ≡ [] → IsLocal m ordinal
 unfolding execution
-local_bodies m ordinal plain = λ f frame copies.
-    makes_none _ zero (actions_of m ordinal) (local_body m.interface m.script.settings.cells plain.interface.no_ocalls m.interface.ecalls m.script.bodies ordinal plain.script.bodies)
+local_bodies m ordinal plain none = λ f frame copies.
+    makes_none _ zero (actions_of m ordinal) (local_body m.interface m.script.settings.cells none m.interface.ecalls m.script.bodies ordinal plain.script.bodies)

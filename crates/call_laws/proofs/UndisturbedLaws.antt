@@ -40,14 +40,14 @@ end_parts : (words : List ℕ) (xs ys : List Step) → words_in_the_end words (h
 end_parts words [] ys = refl
 end_parts words (s ∷ xs) ys = end_parts (words_after words s) xs ys
 
-legal_events : (words : List ℕ) (xs ys : List Event) → AreLegal words (xs ++ ys) → AreLegal words xs × AreLegal (words_at_end words xs) ys
+pub legal_events : (words : List ℕ) (xs ys : List Event) → AreLegal words (xs ++ ys) → AreLegal words xs × AreLegal (words_at_end words xs) ys
 legal_events words xs ys h = legal_parts words (steps_of xs) (steps_of ys) (subst (λ l. IsLegal words (history_of l)) (steps_of-append xs ys) h)
 
-end_events : (words : List ℕ) (xs ys : List Event) → words_at_end words (xs ++ ys) ≡ words_at_end (words_at_end words xs) ys
+pub end_events : (words : List ℕ) (xs ys : List Event) → words_at_end words (xs ++ ys) ≡ words_at_end (words_at_end words xs) ys
 end_events words xs ys = ap (λ l. words_in_the_end words (history_of l)) (steps_of-append xs ys) ∙ end_parts words (steps_of xs) (steps_of ys)
 
 -- loads give what is there, and change nothing
-loads_there : (words : List ℕ) (address : ℕ) (bytes : List ℕ) → AreLegal words (loads_of address bytes)
+pub loads_there : (words : List ℕ) (address : ℕ) (bytes : List ℕ) → AreLegal words (loads_of address bytes)
     → AreAt words address bytes × (words_at_end words (loads_of address bytes) ≡ words)
 loads_there words address [] h = (tt, refl)
 loads_there words address (b ∷ bytes) h =
@@ -64,7 +64,7 @@ first_there true words address bytes events e h =
     (r.0, ap (λ es. words_at_end words es) e ∙ r.1)
 first_there false words address bytes events e h = (e.0, ap (λ es. words_at_end words es) e.1)
 
-copying_there : (f : Function) (frame : List ℕ) (room : ℕ) (params : List Param) (events : List Event) (blocks : List (Option (List ℕ))) (words : List ℕ)
+pub copying_there : (f : Function) (frame : List ℕ) (room : ℕ) (params : List Param) (events : List Event) (blocks : List (Option (List ℕ))) (words : List ℕ)
     → AreCopiedIn f frame room params events blocks → AreLegal words events → AreCopiesOf words f frame params blocks × (words_at_end words events ≡ words)
 copying_there f frame room [] events [] words c h = (tt, ap (λ es. words_at_end words es) c)
 copying_there f frame room [] events (b ∷ blocks) words c h = absurd c
@@ -91,7 +91,7 @@ copying_there f frame room (p ∷ params) events (Some block ∷ blocks) words c
     )
 
 -- stores write their bytes
-stores_write : (words : List ℕ) (address : ℕ) (bytes : List ℕ) (events : List Event) → AreStores address bytes events → words_at_end words events ≡ written words address bytes
+pub stores_write : (words : List ℕ) (address : ℕ) (bytes : List ℕ) (events : List Event) → AreStores address bytes events → words_at_end words events ≡ written words address bytes
 stores_write words address [] [] h = refl
 stores_write words address [] (e ∷ es) h = absurd h
 stores_write words address (b ∷ bytes) [] h = absurd h
@@ -106,7 +106,7 @@ stored_if_writes : (out : Bool) (words : List ℕ) (address : ℕ) (bytes : List
 stored_if_writes true words address bytes events h = stores_write words address bytes events h
 stored_if_writes false words address bytes events h = ap (λ es. words_at_end words es) h
 
-put_back_writes : (frame : List ℕ) (blocks : List (Param × Option (List ℕ))) (words : List ℕ) (events : List Event) → ArePutBack frame blocks events
+pub put_back_writes : (frame : List ℕ) (blocks : List (Param × Option (List ℕ))) (words : List ℕ) (events : List Event) → ArePutBack frame blocks events
     → words_at_end words events ≡ with_blocks frame blocks words
 put_back_writes frame [] words events h = ap (λ es. words_at_end words es) h
 put_back_writes frame ((p, None) ∷ rest) words events h = put_back_writes frame rest words events h
@@ -166,7 +166,7 @@ pub record IsReturned (body : Execution) (events : List Event) (done : Finished)
   pub no_events : events ≡ []
   pub done_is : record { value = value; blocks = blocks; records = [] } ≡ done
 
-returned_run : (m : Machine) (ocalls : Ocalls) (cx : Context) (body : Execution) (events : List Event) (done : Finished) → AsksNothing body → IsRun (interpret m ocalls cx body) events done
+pub returned_run : (m : Machine) (ocalls : Ocalls) (cx : Context) (body : Execution) (events : List Event) (done : Finished) → AsksNothing body → IsRun (interpret m ocalls cx body) events done
     → IsReturned body events done
 returned_run m ocalls cx (returned value blocks) events done quiet h =
     let end : (events ≡ []) × (record { value = value; blocks = blocks; records = [] } ≡ done) = ret_run (record { value = value; blocks = blocks; records = [] }) events done h in

@@ -1,7 +1,7 @@
 //! Laws of ECALLs, as contracts: what the definition of an entry says of the events of its runs.
 #![tactic(auto)]
 
-ghost use Rattle.std.specs.Prelude.{ℕ, ◌↔◌, List, Ok, Err};
+ghost use Rattle.std.specs.Prelude.{ℕ, ◌≡◌, ◌↔◌, List, [], Ok, Err};
 ghost use Rattle.sgx_base.specs.declared.Status.{Status};
 ghost use Rattle.word_port.specs.Events.{Event};
 ghost use Rattle.word_port.specs.Interaction.{IsRun};
@@ -54,9 +54,9 @@ pub fn no_races_law()
         → IsLocalCall m ocalls cx ordinal address words events }
 {}
 
-/// The bodies of a machine that the engine runs make no OCALL.
+/// The bodies of a machine that the engine runs make no OCALL where its interface has none.
 pub fn local_bodies_law()
-    ensures { (m : Machine) (ordinal : ℕ) → IsPlainMachine m → IsLocal m ordinal }
+    ensures { (m : Machine) (ordinal : ℕ) → IsPlainMachine m → m.interface.ocalls ≡ [] → IsLocal m ordinal }
 {}
 
 /// A body with no step on a cell and no OCALL among its actions asks for nothing.

@@ -4,6 +4,9 @@ use Rattle.std.specs.Prelude.{unwrap_or}
 use Rattle.sgx_base.specs.Bytes.{rounded_size, is_divisible}
 use Rattle.edl_interface.specs.declared.Function.{Function}
 use Rattle.edl_interface.specs.declared.Param.{Param}
+use Rattle.enclave_memory.specs.declared.Block.{Block}
+use Rattle.enclave_memory.specs.Memory.{Memory}
+use Rattle.body_vm.specs.Places.{blocks_in, AreNumbered, AreAsLong}
 use Rattle.body_vm.specs.State.{State, with_block, with_new_block, overlay}
 use Rattle.call_machine.specs.Bodies.{block_length, KeepLengths}
 use Rattle.call_machine.specs.Ecall.{shape_of}
@@ -78,3 +81,17 @@ still_copies f frame (p ∷ params) (None ∷ copies) (None ∷ now) k are = sti
 still_copies f frame (p ∷ params) (None ∷ copies) (Some bytes ∷ now) k are = let e = k.0 in absurd cc
 still_copies f frame (p ∷ params) (Some bytes ∷ copies) (None ∷ now) k are = let e = k.0 in absurd cc
 still_copies f frame (p ∷ params) (Some these ∷ copies) (Some bytes ∷ now) k are = (same_copy f frame p these bytes k.0 are.0, still_copies f frame params copies now k.1 are.1)
+
+-- blocks that stay as long in their arena
+pub still_long : (before after : Memory) (blocks : List (Option Block)) (numbers : List (Option ℕ)) → AreAsLong before.blocks after.blocks → AreNumbered before blocks numbers
+    → KeepLengths (blocks_in before numbers) (blocks_in after numbers)
+still_long before after [] [] long h = tt
+still_long before after [] (n ∷ numbers) long h = absurd h
+still_long before after (b ∷ blocks) [] long h = absurd h
+still_long before after (None ∷ blocks) (None ∷ numbers) long h = (refl, still_long before after blocks numbers long h.1)
+still_long before after (None ∷ blocks) (Some n ∷ numbers) long h = absurd h.0
+still_long before after (Some b ∷ blocks) (None ∷ numbers) long h = absurd h.0
+still_long before after (Some b ∷ blocks) (Some n ∷ numbers) long h =
+    let (these, is) = h.0 in
+    let (now, found, same) = long n these is.bytes_are in
+    (ap (λ x. block_length x) found ∙ ap (λ k. Some k) same ∙ sym (ap (λ x. block_length x) is.bytes_are), still_long before after blocks numbers long h.1)

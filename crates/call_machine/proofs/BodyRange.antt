@@ -1,36 +1,66 @@
--- A sound body can be carried out: its registers and places are in range, its cells are there, and it makes no OCALL where there is none.
-use Rattle.std.proofs.Common.{ℕ, zero, suc, ◌+◌, ◌-◌, ◌*◌, ◌%◌, ◌^◌, ◌≡◌, ◌≤◌, ◌==◌, Bool, if◌then◌else◌, List, [], ◌∷◌, length, filter, count_by, replicate, Option, Some, slice_get, slice_set, slice_index, bit_and, bit_or, bit_xor, sum, refl, ap, sym, ◌∙◌, subst, arith, length-set}
+-- A sound body can be carried out: its registers and places are in range, its cells are there, its OCALLs are those of the interface, and
+-- the blocks of the parameters stay as long as they are.
+use Rattle.std.proofs.Common.{ℕ, zero, suc, ◌+◌, ◌-◌, ◌*◌, ◌%◌, ◌^◌, ◌≡◌, ◌≤◌, ◌==◌, Bool, true, false, if◌then◌else◌, List, [], ◌∷◌, length, map, filter, count_by, replicate, Option, Some, None, slice_get, slice_set, slice_index, bit_and, bit_or, bit_xor, sum, refl, ap, sym, ◌∙◌, subst, arith, length-set}
 use Rattle.std.specs.List.{AllZip}
 use Rattle.std.proofs.lemmas.List.{length-replicate}
 use Rattle.std.proofs.lemmas.List.Sums.{length-filter}
 use Rattle.std.proofs.lemmas.Option.{slice_get_within}
 use Rattle.edl_interface.specs.declared.Function.{Function}
 use Rattle.edl_interface.specs.declared.Interface.{Interface}
-use Rattle.edl_interface.specs.Parameters.{marshalled}
+use Rattle.edl_interface.specs.declared.Param.{Param}
+use Rattle.edl_interface.specs.Parameters.{is_marshalled, marshalled}
+use Rattle.enclave_memory.specs.declared.Block.{Block}
+use Rattle.enclave_memory.specs.Arguments.{Passed, by_number, by_place}
+use Rattle.ocall_frames.specs.Arguments.{AreOfKinds}
 use Rattle.body_vm.specs.declared.Operand.{Operand}
 use Rattle.body_vm.specs.declared.Operand.TheVariants.{Number, Reg, Value}
 use Rattle.body_vm.specs.declared.Action.{Action}
 use Rattle.body_vm.specs.declared.Action.TheVariants.{Set, Add, Sub, Mul, And, Or, Xor, Len, Sum, Get, Put, Fill, Copy, Temp, Cload, Cswap, Cadd, Ccas, Ocall, Skipz, Skipnz, Return}
+use Rattle.body_vm.specs.declared.Pass.{Pass}
+use Rattle.body_vm.specs.declared.Pass.TheVariants.{Value as pass_value, Bytes as pass_block}
 use Rattle.body_vm.specs.declared.Body.{Body}
-use Rattle.body_vm.specs.Range.{IsOperand as IsInRangeOperand, IsInRange, skip_of, AreInRange}
-use Rattle.body_vm.specs.State.{State, operand, register, with_register, block, with_block, with_new_block, overlay}
-use Rattle.body_vm.specs.Execution.{Execution, returned, on_cell, on_ocall, execution_from}
+use Rattle.body_vm.specs.Range.{IsOperand as IsInRangeOperand, ArePassable, IsInRange, skip_of, AreInRange}
+use Rattle.body_vm.specs.State.{State, operand, register, with_register, block, with_block, with_new_block, overlay, passed_argument}
+use Rattle.body_vm.specs.Execution.{Execution, OcallRequest, OcallAnswer, returned, on_cell, on_ocall, with_answer, execution_from}
+use Rattle.body_vm.specs.Moments.{handed}
 use Rattle.body_run.specs.Cells.{HasCell, HaveCells}
-use Rattle.call_script.specs.Sound.{IsOperand, IsSoundAction, AreSoundActions, IsSoundBody, is_temporary_action}
+use Rattle.call_script.specs.Sound.{IsOperand, IsPassAt, IsSoundOcall, IsSoundAction, AreSoundActions, IsSoundBody, is_temporary_action}
 use Rattle.call_machine.specs.Bodies.{KeepLengths}
 use Rattle.call_machine.specs.Ecall.{is_temp}
-use Rattle.call_machine.proofs.BlockLengths.{changed_keeps, new_keeps, overlay_length}
+use Rattle.call_machine.proofs.BlockLengths.{keep_then, changed_keeps, new_keeps, overlay_length}
 use std.Path.{fun_ext}
 
--- whatever its cells answer, an execution makes no OCALL and ends with blocks like these
-abbrev pub EndsWith : (List (Option (List ℕ)) → Type 0) → Execution → Type 0
-EndsWith P (returned value blocks) = P blocks
-EndsWith P (on_cell q next) = (old : ℕ) → EndsWith P (next old)
-EndsWith P (on_ocall q next) = ⊥
+-- whether an argument is a block or null, and no number
+abbrev is_place : Passed → Bool
+is_place (by_number n) = false
+is_place (by_place place) = true
 
-no_function : (fs : List Function) (ordinal : ℕ) (g : Function) → fs ≡ [] → slice_get fs ordinal ≡ Some g → ⊥
-no_function [] ordinal g e found = cc
-no_function (x ∷ fs) ordinal g e found = cc
+-- one argument for each parameter: a block or null exactly where it is marshalled
+abbrev pub AreFor : List Param → List Passed → Type 0
+AreFor [] [] = Unit {0}
+AreFor (p ∷ params) (a ∷ passed) = (is_place a ≡ is_marshalled p.class) × AreFor params passed
+AreFor _ _ = ⊥
+
+-- an OCALL of the interface, with arguments of its parameters' kinds
+pub record IsAsked (i : Interface) (q : OcallRequest) : Type 0 where
+  pub function : Function
+  pub found : slice_get i.ocalls q.ordinal ≡ Some function
+  pub kinds : AreFor function.params q.arguments
+
+-- whatever its cells and OCALLs answer, each OCALL is one of the interface; and where OCALLs keep the lengths of blocks, the execution
+-- ends with blocks whose first ones are as long as these
+abbrev pub EndsWith : Interface → List (Option (List ℕ)) → Execution → Type 0
+EndsWith i first (returned value blocks) = KeepLengths first blocks
+EndsWith i first (on_cell q next) = (old : ℕ) → EndsWith i first (next old)
+EndsWith i first (on_ocall q next) = IsAsked i q × ((answer : OcallAnswer) → KeepLengths q.blocks answer.blocks → EndsWith i first (next answer))
+
+-- the arguments of an OCALL that is made are of the kinds that it wants
+pub are_of_kinds : (params : List Param) (passed : List Passed) (blocks : List (Option Block)) → AreFor params passed → AreOfKinds params (map (handed blocks) passed)
+are_of_kinds [] [] blocks h = tt
+are_of_kinds [] (a ∷ passed) blocks h = absurd h
+are_of_kinds (p ∷ params) [] blocks h = absurd h
+are_of_kinds (p ∷ params) (by_number n ∷ passed) blocks h = (h.0, are_of_kinds params passed blocks h.1)
+are_of_kinds (p ∷ params) (by_place place ∷ passed) blocks h = (h.0, are_of_kinds params passed blocks h.1)
 
 module _ (i : Interface) (count : ℕ) (f : Function) (temporaries : ℕ) where
   operand_in : (v : Operand) → IsOperand i count f temporaries v → IsInRangeOperand (length f.params) v
@@ -38,7 +68,29 @@ module _ (i : Interface) (count : ℕ) (f : Function) (temporaries : ℕ) where
   operand_in (Reg r) h = h
   operand_in (Value place) h = slice_get_within f.params place h.0 h.1
 
-  module _ (none : i.ocalls ≡ []) where
+  passes_in : (params : List Param) (args : List Pass) → AllZip (IsPassAt i count f temporaries) params args → ArePassable (length f.params) (length (marshalled f) + temporaries) args
+  passes_in [] [] h = tt
+  passes_in [] (a ∷ args) h = absurd h
+  passes_in (p ∷ params) [] h = absurd h
+  passes_in (p ∷ params) (pass_value v ∷ args) h = (operand_in v h.0.1, passes_in params args h.1)
+  passes_in (p ∷ params) (pass_block None ∷ args) h = (tt, passes_in params args h.1)
+  passes_in (p ∷ params) (pass_block (Some place) ∷ args) h = (h.0.1, passes_in params args h.1)
+
+  passes_count : (params : List Param) (args : List Pass) → AllZip (IsPassAt i count f temporaries) params args → length args ≡ length params
+  passes_count [] [] h = refl
+  passes_count [] (a ∷ args) h = absurd h
+  passes_count (p ∷ params) [] h = absurd h
+  passes_count (p ∷ params) (a ∷ args) h = ap (λ n. suc n) (passes_count params args h.1)
+
+  kinds_of : (s : State) (params : List Param) (args : List Pass) → AllZip (IsPassAt i count f temporaries) params args → AreFor params (map (passed_argument s) args)
+  kinds_of s [] [] h = tt
+  kinds_of s [] (a ∷ args) h = absurd h
+  kinds_of s (p ∷ params) [] h = absurd h
+  kinds_of s (p ∷ params) (pass_value v ∷ args) h = (sym h.0.0, kinds_of s params args h.1)
+  kinds_of s (p ∷ params) (pass_block None ∷ args) h = (sym h.0, kinds_of s params args h.1)
+  kinds_of s (p ∷ params) (pass_block (Some place) ∷ args) h = (sym h.0.0, kinds_of s params args h.1)
+
+  module _ (few : (ordinal : ℕ) (g : Function) → slice_get i.ocalls ordinal ≡ Some g → length g.params ≤ 64) where
     action_in : (left : ℕ) (a : Action) → IsSoundAction i count f temporaries left a → IsInRange (length f.params) (length (marshalled f) + temporaries) a × (skip_of a ≤ left)
     action_in left (Set r v) h = ((h.0, operand_in v h.1), omega arith)
     action_in left (Add r v) h = ((h.0, operand_in v h.1), omega arith)
@@ -58,7 +110,11 @@ module _ (i : Interface) (count : ℕ) (f : Function) (temporaries : ℕ) where
     action_in left (Cswap r cell v) h = ((h.0, operand_in v h.2), omega arith)
     action_in left (Cadd r cell v) h = ((h.0, operand_in v h.2), omega arith)
     action_in left (Ccas r cell v w) h = ((h.0, operand_in v h.2, operand_in w h.3), omega arith)
-    action_in left (Ocall r q ordinal args) h = absurd (no_function i.ocalls ordinal h.2.function none h.2.found)
+    action_in left (Ocall r q ordinal args) h =
+        let sound : IsSoundOcall i count f temporaries ordinal args = h.2 in
+        let upto : length sound.function.params ≤ 64 = few ordinal sound.function sound.found in
+        let same : length args ≡ length sound.function.params = passes_count sound.function.params args sound.fits in
+        ((h.0, h.1, omega (arith, upto, same), passes_in sound.function.params args sound.fits), omega arith)
     action_in left (Skipz r n) h = (h.0, h.1)
     action_in left (Skipnz r n) h = (h.0, h.1)
     action_in left (Return v) h = (operand_in v h, omega arith)
@@ -79,9 +135,9 @@ module _ (i : Interface) (count : ℕ) (f : Function) (temporaries : ℕ) where
     cells_in [] h = tt
     cells_in (a ∷ actions) h = (cell_in (length actions) a h.0, cells_in actions h.1)
 
-  module _ (none : i.ocalls ≡ []) (first : List (Option (List ℕ))) (first_are : length first ≡ length (marshalled f)) where
+  module _ (first : List (Option (List ℕ))) (first_are : length first ≡ length (marshalled f)) where
     abbrev Keeps : Execution → Type 0
-    Keeps e = EndsWith (λ blocks. KeepLengths first blocks) e
+    Keeps e = EndsWith i first e
 
     pub ends_with : (s : State) (skip : ℕ) (actions : List Action) → AreSoundActions i count f temporaries actions → KeepLengths first s.blocks → Keeps (execution_from s skip actions)
     ends_with s skip [] a k = k
@@ -111,7 +167,10 @@ module _ (i : Interface) (count : ℕ) (f : Function) (temporaries : ℕ) where
     ends_with s zero (Cswap r cell v ∷ rest) a k = λ old. ends_with (with_register s r old) zero rest a.1 k
     ends_with s zero (Cadd r cell v ∷ rest) a k = λ old. ends_with (with_register s r old) zero rest a.1 k
     ends_with s zero (Ccas r cell v w ∷ rest) a k = λ old. ends_with (with_register s r old) zero rest a.1 k
-    ends_with s zero (Ocall r q ordinal args ∷ rest) a k = no_function i.ocalls ordinal a.0.2.function none a.0.2.found
+    ends_with s zero (Ocall r q ordinal args ∷ rest) a k = (
+      record { function = a.0.2.function; found = a.0.2.found; kinds = kinds_of s a.0.2.function.params args a.0.2.fits },
+      λ answer kept. ends_with (with_answer s r q answer) zero rest a.1 (keep_then first s.blocks answer.blocks k kept),
+    )
     ends_with s zero (Skipz r n ∷ rest) a k = ends_with s (if register s r == 0 then n else 0) rest a.1 k
     ends_with s zero (Skipnz r n ∷ rest) a k = ends_with s (if register s r == 0 then 0 else n) rest a.1 k
     ends_with s zero (Return v ∷ rest) a k = k

@@ -1,21 +1,26 @@
--- What the calls of a host thread come to.
-use Rattle.std.proofs.Common.{ℕ, ◌+◌, ◌<◌, ◌≡◌, true, false, if◌then◌else◌, ◌&&◌, nat_lt, List, [], ◌∷◌, length, zip, Some, None, slice_get, Result, Ok, Err, OnOk, IfErr, refl, ap, sym, ◌∙◌, subst, length-append, arith}
+-- What the calls of the host come to: before their entry, in it, and after it.
+use Rattle.std.proofs.Common.{ℕ, ◌+◌, ◌<◌, ◌≤◌, ◌≡◌, Bool, true, false, not, if◌then◌else◌, ◌&&◌, nat_lt, List, [], ◌∷◌, length, zip, Option, Some, None, slice_get, refl, ap, sym, ◌∙◌, subst, length-append, arith}
 use Rattle.std.proofs.Math.Bool.{and-false}
+use Rattle.sgx_base.specs.Ranges.{host_start}
+use Rattle.sgx_base.specs.declared.Status.{Status}
 use Rattle.sgx_base.specs.declared.TheConstants.Status.{UNEXPECTED}
 use Rattle.edl_interface.specs.declared.Function.{Function}
 use Rattle.edl_interface.specs.Parameters.{has_frame, return_size}
 use Rattle.word_port.specs.declared.Side.TheVariants.{Host}
 use Rattle.word_port.specs.declared.RunFull.{RunFull}
 use Rattle.word_port.specs.declared.RunFull.TheVariants.{Steps, Records}
-use Rattle.word_port.specs.Port.{PortState}
+use Rattle.word_port.specs.Port.{PortState, with_steps}
 use Rattle.word_port.specs.Interaction.{Interaction, ret, here, and_then, map_value}
 use Rattle.word_port.specs.Accesses.{loads, stores}
-use Rattle.word_port.specs.Limits.{Progress, progress}
-use Rattle.word_port.specs.Runs.{Makes, StopsFull, Runs, StopsAt}
-use Rattle.word_port.proofs.Laws.{runs_ret, runs_then, reaches_first, stops_first, stops_second}
-use Rattle.word_port.proofs.EventLaws.{record_then, place_then, steps_then, no_record, steps_stop_then, steps_full_then}
+use Rattle.word_port.specs.Limits.{progress}
+use Rattle.word_port.specs.Runs.{Leads, Makes, StopsFull, Reaches, Runs, StopsAt}
+use Rattle.word_port.proofs.Laws.{leads_first, leads_then, makes_ret, full_first, full_second, runs_ret, reaches_on, reaches_first, reaches_then, stops_on, stops_first, stops_second}
+use Rattle.word_port.proofs.EventLaws.{record_then, place_then, steps_reach, steps_stop, no_record}
+use Rattle.call_copy.specs.Stops.{IsCutShort}
+use Rattle.ocall_frames.specs.declared.Frame.{Frame}
 use Rattle.ocall_frames.specs.declared.HostStack.{HostStack}
 use Rattle.ocall_frames.specs.Stack.{frame_below}
+use Rattle.ocall_frames.proofs.FrameLaws.{frame_region}
 use Rattle.switchless.specs.Slots.{offered_word}
 use Rattle.switchless.specs.Caller.{caller}
 use Rattle.call_script.specs.declared.CallArg.{CallArg}
@@ -23,12 +28,14 @@ use Rattle.call_report.specs.declared.Way.TheVariants.{Ordinary}
 use Rattle.call_report.specs.declared.CallKind.TheVariants.{Ecall}
 use Rattle.call_report.specs.declared.CallRecord.{CallRecord}
 use Rattle.call_report.specs.RecordList.{RecordList, records_left, with_records}
-use Rattle.bridge_program.specs.Entry.{is_empty}
+use Rattle.bridge_program.specs.Entry.{is_empty, MayEnter}
 use Rattle.call_machine.specs.declared.Machine.{Machine}
-use Rattle.call_machine.specs.Calls.{host_call, raw_call, call_to, call_where, call_in_frame, entry, ecall_pool, unless_taken, with_record, with_return, no_frame, call_frame, string_lengths}
+use Rattle.call_machine.specs.Calls.{host_call, raw_call, call_to, call_where, entry, ecall_pool, unless_taken, with_record, with_return, no_frame, call_frame, string_lengths}
 use Rattle.call_machine.specs.Context.{Context, depth_of}
 use Rattle.call_machine.specs.Ecall.{ecall_record}
-use Rattle.call_machine.specs.Tcs.{TcsState, context_of, moment}
+use Rattle.call_machine.specs.FramedCalls.{AnyCall, call_of, entry_of, IsStored, IsFramed}
+use Rattle.call_machine.specs.Made.{MakesCalls}
+use Rattle.call_machine.specs.Tcs.{TcsState, context_of, moment, HasStackInHost, IsPortOf}
 use Rattle.call_machine.specs.Result.{Outcome, is_success}
 use Rattle.call_machine.specs.Thread.{ecall, ecalls}
 
@@ -55,13 +62,68 @@ unframed cx ordinal waits depth place port before after d p h e =
 pub unframed_stops : (cx : Context) (ordinal records waits : ℕ) (port : PortState) → records ≡ 0 → StopsAt Records (no_frame cx ordinal) (progress port records waits) port
 unframed_stops cx ordinal records waits port none = no_record _ port records waits none
 
--- the parts of a call with a frame: the loads of its strings come first
-pub framed_is : (m : Machine) (cx : Context) (f : Function) (ordinal : ℕ) (args : List CallArg) → slice_get m.interface.ecalls ordinal ≡ Some f → has_frame f ≡ true
-    → host_call m (ecalls m cx) cx 0 ordinal args ≡ and_then (string_lengths m.script.settings.host 0 (zip f.params args)) (λ lengths. call_where m (ecalls m cx) cx ordinal f (λ frame. call_frame f 0 args lengths) (frame_below cx.base cx.top f.frame_size))
-framed_is m cx f ordinal args at framed =
-    let next : List ℕ → Interaction (List CallRecord) = λ lengths. call_where m (ecalls m cx) cx ordinal f (λ frame. call_frame f 0 args lengths) (frame_below cx.base cx.top f.frame_size) in
-    ap (λ o. call_to m (ecalls m cx) cx 0 ordinal args o) at
-    ∙ ap (λ b. if b then and_then (string_lengths m.script.settings.host 0 (zip f.params args)) next else map_value (λ out. out.records) (entry m (ecalls m cx) cx ordinal f 0)) framed
+-- ---- before the entry: the lengths of the strings, and the frame
+
+module _ (host place : ℕ) (any : AnyCall host) (f : Function) (args : List CallArg) (framed : has_frame f ≡ true) (t : TcsState) where
+  abbrev finding : Interaction (List ℕ)
+  finding = string_lengths host place (zip f.params args)
+
+  abbrev with_frame : List ℕ → Interaction (List CallRecord)
+  with_frame lengths = call_where any.machine any.ecalls (context_of t) any.ordinal f (λ frame. call_frame f place args lengths) (frame_below t.base t.top f.frame_size)
+
+  call_is : call_of any (context_of t) place f args ≡ and_then finding with_frame
+  call_is =
+      ap (λ b. if b then and_then (string_lengths any.machine.script.settings.host place (zip f.params args)) with_frame else map_value (λ out. out.records) (entry any.machine any.ecalls (context_of t) any.ordinal f 0)) framed
+      ∙ ap (λ h. and_then (string_lengths h place (zip f.params args)) with_frame) any.host_is
+
+  -- the log is full among the strings
+  pub finding_cut : (old new : PortState) → StopsFull finding old new → StopsFull (call_of any (context_of t) place f args) old new
+  finding_cut old new stopped = subst (λ u. StopsFull u old new) (sym call_is) (full_first finding with_frame old new stopped)
+
+  module _ (old mid : PortState) (lengths bytes : List ℕ) (made : Makes finding old mid lengths) (bytes_are : bytes ≡ call_frame f place args lengths) where
+    -- the log is full as the frame is written
+    pub storing_cut : (at : ℕ) (new : PortState) → frame_below t.base t.top f.frame_size ≡ Some at → StopsFull (stores Host at bytes) mid new → StopsFull (call_of any (context_of t) place f args) old new
+    storing_cut at new fits stopped =
+        subst (λ u. StopsFull u old new) (sym call_is)
+        (full_second finding with_frame old mid new lengths made
+        (subst (λ o. StopsFull (call_where any.machine any.ecalls (context_of t) any.ordinal f (λ frame. call_frame f place args lengths) o) mid new) (sym fits)
+        (full_first (stores Host at (call_frame f place args lengths)) (λ stored. entry_of any (context_of t) f at) mid new
+        (subst (λ b. StopsFull (stores Host at b) mid new) bytes_are stopped))))
+
+    -- the frame does not fit
+    pub none_leads : frame_below t.base t.top f.frame_size ≡ None → Leads (call_of any (context_of t) place f args) old mid (no_frame (context_of t) any.ordinal)
+    none_leads none =
+        subst (λ u. Leads u old mid (no_frame (context_of t) any.ordinal)) (sym call_is)
+        (subst (λ u. Leads (and_then finding with_frame) old mid u)
+        (ap (λ o. call_where any.machine any.ecalls (context_of t) any.ordinal f (λ frame. call_frame f place args lengths) o) none)
+        (leads_first finding (ret lengths) with_frame old mid made))
+
+    -- the frame is written
+    pub frame_leads : (at : ℕ) (new : PortState) → frame_below t.base t.top f.frame_size ≡ Some at → Makes (stores Host at bytes) mid new tt → Leads (call_of any (context_of t) place f args) old new (entry_of any (context_of t) f at)
+    frame_leads at new fits stored =
+        subst (λ u. Leads u old new (entry_of any (context_of t) f at)) (sym call_is)
+        (leads_then finding with_frame (entry_of any (context_of t) f at) old mid new lengths made
+        (subst (λ o. Leads (call_where any.machine any.ecalls (context_of t) any.ordinal f (λ frame. call_frame f place args lengths) o) mid new (entry_of any (context_of t) f at)) (sym fits)
+        (leads_first (stores Host at (call_frame f place args lengths)) (ret tt) (λ stored. entry_of any (context_of t) f at) mid new
+        (subst (λ b. Makes (stores Host at b) mid new tt) bytes_are stored))))
+
+-- a call whose frame is written, or does not fit
+module _ (place : ℕ) (f : Function) (args : List CallArg) (framed : has_frame f ≡ true) (old mid new : PortState) (t now : TcsState)
+    (lengths bytes : List ℕ) (made : Makes (string_lengths old.host place (zip f.params args)) old mid lengths) (bytes_are : bytes ≡ call_frame f place args lengths) where
+  pub stored_is : (frame : Option Frame) → IsStored bytes f.frame_size mid new t now frame → IsFramed f args place old new t now frame
+  stored_is None (none, same, kept) =
+      (λ any. subst (λ s. Leads (call_of any (context_of t) place f args) old s (no_frame (context_of t) any.ordinal)) (sym same) (none_leads old.host place any f args framed t old mid lengths bytes made bytes_are none), kept)
+  stored_is (Some frame) (fits, top, moved, stored) =
+      (λ any. frame_leads old.host place any f args framed t old mid lengths bytes made bytes_are frame.at new fits stored, fits, top, moved)
+
+-- with another host stack, and with another top
+abbrev pub with_stack : TcsState → HostStack → TcsState
+with_stack t h = record t { base = h.base; top = h.top }
+
+abbrev pub with_top : TcsState → ℕ → TcsState
+with_top t n = record t { top = n }
+
+-- ---- the entry
 
 -- a machine without workers for ECALLs posts none
 module _ (m : Machine) (no_workers : m.script.settings.tworkers ≡ 0) where
@@ -72,218 +134,235 @@ module _ (m : Machine) (no_workers : m.script.settings.tworkers ≡ 0) where
       ap (λ b. with_record (if b then here (λ first. and_then (caller (ecall_pool m.script.settings) (offered_word ordinal frame)) (unless_taken (ecalls m cx) now ordinal frame first)) else ecalls m cx now ordinal frame Ordinary)) posts
 
   -- a call without a frame
-  pub frameless_is : (cx : Context) (f : Function) (ordinal : ℕ) (args : List CallArg) → slice_get m.interface.ecalls ordinal ≡ Some f → has_frame f ≡ false
-      → host_call m (ecalls m cx) cx 0 ordinal args ≡ map_value (λ out. out.records) (ecall m cx ordinal 0 Ordinary)
+  frameless_is : (cx : Context) (place : ℕ) (f : Function) (ordinal : ℕ) (args : List CallArg) → slice_get m.interface.ecalls ordinal ≡ Some f → has_frame f ≡ false
+      → host_call m (ecalls m cx) cx place ordinal args ≡ map_value (λ out. out.records) (ecall m cx ordinal 0 Ordinary)
   unfolding ecall
-  frameless_is cx f ordinal args at framed =
-      let next : List ℕ → Interaction (List CallRecord) = λ lengths. call_where m (ecalls m cx) cx ordinal f (λ frame. call_frame f 0 args lengths) (frame_below cx.base cx.top f.frame_size) in
-      ap (λ o. call_to m (ecalls m cx) cx 0 ordinal args o) at
-      ∙ ap (λ b. if b then and_then (string_lengths m.script.settings.host 0 (zip f.params args)) next else map_value (λ out. out.records) (entry m (ecalls m cx) cx ordinal f 0)) framed
+  frameless_is cx place f ordinal args at framed =
+      let next : List ℕ → Interaction (List CallRecord) = λ lengths. call_where m (ecalls m cx) cx ordinal f (λ frame. call_frame f place args lengths) (frame_below cx.base cx.top f.frame_size) in
+      ap (λ o. call_to m (ecalls m cx) cx place ordinal args o) at
+      ∙ ap (λ b. if b then and_then (string_lengths m.script.settings.host place (zip f.params args)) next else map_value (λ out. out.records) (entry m (ecalls m cx) cx ordinal f 0)) framed
       ∙ ap (λ t. map_value (λ out. out.records) t) (entry_is cx cx ordinal f 0)
 
-  module _ (cx : Context) (f : Function) (ordinal : ℕ) (bytes : List ℕ) (at : ℕ) (now : Context) (now_is : now ≡ record cx { top = at }) where
-    -- the entry of a call
-    abbrev entering : Interaction Outcome
-    entering = ecall m now ordinal at Ordinary
+  entered_is : (cx : Context) (f : Function) (ordinal at : ℕ) → entry m (ecalls m cx) (record cx { top = at }) ordinal f at ≡ ecall m (record cx { top = at }) ordinal at Ordinary
+  unfolding ecall
+  entered_is cx f ordinal at = entry_is cx (record cx { top = at }) ordinal f at
 
-    entered_is : entry m (ecalls m cx) (record cx { top = at }) ordinal f at ≡ ecall m (record cx { top = at }) ordinal at Ordinary
-    unfolding ecall
-    entered_is = entry_is cx (record cx { top = at }) ordinal f at
+  -- a call without a frame is its entry
+  module _ (f : Function) (place ordinal : ℕ) (args : List CallArg) (at : slice_get m.interface.ecalls ordinal ≡ Some f) (framed : has_frame f ≡ false)
+      (old : PortState) (before : RecordList) (t : TcsState) where
+    abbrev frameless_call : Interaction (List CallRecord)
+    frameless_call = host_call m (ecalls m (context_of t)) (context_of t) place ordinal args
 
-    entered_ordinarily : entry m (ecalls m cx) (record cx { top = at }) ordinal f at ≡ entering
-    entered_ordinarily = entered_is ∙ ap (λ x. ecall m x ordinal at Ordinary) (sym now_is)
+    frameless : frameless_call ≡ map_value (λ out. out.records) (ecall m (context_of t) ordinal 0 Ordinary)
+    frameless = frameless_is (context_of t) place f ordinal args at framed
 
-    abbrev calling : Interaction (List CallRecord)
-    calling = call_in_frame m (ecalls m cx) cx ordinal f bytes at
+    pub frameless_cut : (full : RunFull) (new : PortState) → StopsAt full (ecall m (context_of t) ordinal 0 Ordinary) (moment old before t) new
+        → StopsAt full (host_call m (ecalls m (context_of t)) (context_of t) place ordinal args) (moment old before t) new
+    frameless_cut full new stopped =
+        subst (λ u. StopsAt full u (moment old before t) new) (sym frameless) (stops_first full (ecall m (context_of t) ordinal 0 Ordinary) (λ out. ret out.records) (moment old before t) new stopped)
 
-    calling_is : calling ≡ and_then (stores Host at bytes) (λ stored. and_then entering (with_return f at))
-    calling_is = ap (λ t. and_then (stores Host at bytes) (λ stored. and_then t (with_return f at))) entered_ordinarily
-
-    return_is : (out : Outcome) → is_success out.status ≡ true → with_return f at out ≡ map_value (λ loaded. out.records) (loads Host at (return_size f))
-    return_is out e = rw e refl
-
-    no_return_is : (out : Outcome) → is_success out.status ≡ false → with_return f at out ≡ ret out.records
-    no_return_is out e = rw e refl
-
-    module _ (old mid : PortState) (before waits : ℕ) (stored : Makes (stores Host at bytes) old mid tt) where
-      -- the log is full in the entry, or no record is left
-      pub call_stops_entering : (full : RunFull) (new : PortState) → StopsAt full entering (progress mid before waits) new → StopsAt full calling (progress old before waits) new
-      call_stops_entering full new stopped =
-          subst (λ t. StopsAt full t (progress old before waits) new) (sym calling_is)
-          (steps_stop_then full (stores Host at bytes) (λ done. and_then entering (with_return f at)) old mid new before waits tt stored
-          (stops_first full entering (with_return f at) (progress mid before waits) new stopped))
-
-      module _ (end : PortState) (after left : ℕ) (out : Outcome) (run : Runs entering (progress mid before waits) (progress end after left) out) where
-        -- the call is refused
-        pub call_refused : is_success out.status ≡ false → Runs calling (progress old before waits) (progress end after left) out.records
-        call_refused e =
-            subst (λ t. Runs t (progress old before waits) (progress end after left) out.records) (sym calling_is)
-            (steps_then (stores Host at bytes) (λ done. and_then entering (with_return f at)) _ old mid before waits _ tt stored
-            (runs_then entering (with_return f at) _ (progress end after left) _ out _ run
-            (subst (λ t. Runs t (progress end after left) (progress end after left) out.records) (sym (no_return_is out e)) (runs_ret _ _))))
-
-        -- the call is made, and its return is loaded
-        pub call_returns : (new : PortState) (loaded : List ℕ) → is_success out.status ≡ true → Makes (loads Host at (return_size f)) end new loaded
-            → Runs calling (progress old before waits) (progress new after left) out.records
-        call_returns new loaded e made =
-            subst (λ t. Runs t (progress old before waits) (progress new after left) out.records) (sym calling_is)
-            (steps_then (stores Host at bytes) (λ done. and_then entering (with_return f at)) _ old mid before waits _ tt stored
-            (runs_then entering (with_return f at) _ (progress end after left) _ out _ run
-            (subst (λ t. Runs t (progress end after left) (progress new after left) out.records) (sym (return_is out e))
-            (steps_then (loads Host at (return_size f)) (λ done. ret out.records) _ end new after left _ loaded made (runs_ret _ _)))))
-
-        -- the log is full as the return is loaded
-        pub call_stops_returning : (new : PortState) → is_success out.status ≡ true → StopsFull (loads Host at (return_size f)) end new → StopsAt Steps calling (progress old before waits) new
-        call_stops_returning new e stopped =
-            subst (λ t. StopsAt Steps t (progress old before waits) new) (sym calling_is)
-            (steps_stop_then Steps (stores Host at bytes) (λ done. and_then entering (with_return f at)) old mid new before waits tt stored
-            (stops_second Steps entering (with_return f at) (progress mid before waits) (progress end after left) new out run
-            (subst (λ t. StopsAt Steps t (progress end after left) new) (sym (return_is out e))
-            (steps_full_then (loads Host at (return_size f)) (λ done. ret out.records) end new after left stopped))))
-
-  -- the log is full as the frame is written
-  pub call_stops_storing : (cx : Context) (f : Function) (ordinal : ℕ) (bytes : List ℕ) (at : ℕ) (old new : PortState) (before waits : ℕ) → StopsFull (stores Host at bytes) old new
-      → StopsAt Steps (call_in_frame m (ecalls m cx) cx ordinal f bytes at) (progress old before waits) new
-  call_stops_storing cx f ordinal bytes at old new before waits stopped = steps_full_then (stores Host at bytes) _ old new before waits stopped
-
--- with another host stack, and with another top
-abbrev pub with_stack : TcsState → HostStack → TcsState
-with_stack t h = record t { base = h.base; top = h.top }
-
-abbrev pub with_top : TcsState → ℕ → TcsState
-with_top t n = record t { top = n }
-
--- what holds where a call of the code gives Ok, or Err
-pub on_ok_map : (result : Result (Unit {0}) RunFull) (P Q : Type 0) → (P → Q) → OnOk result P → OnOk result Q
-on_ok_map (Ok u) P Q f p = f p
-on_ok_map (Err e) P Q f p = tt
-
-pub if_err_map : (result : Result (Unit {0}) RunFull) (P Q : RunFull → Type 0) → ((full : RunFull) → P full → Q full) → IfErr result P → IfErr result Q
-if_err_map (Ok u) P Q f p = tt
-if_err_map (Err e) P Q f p = f e p
-
--- a call that is made or cut in a frame on the host stack
-module _ (m : Machine) (f : Function) (ordinal : ℕ) (bytes : List ℕ) (t : TcsState) where
-  abbrev called : Interaction (List CallRecord)
-  called = call_where m (ecalls m (context_of t)) (context_of t) ordinal f (λ frame. bytes) (frame_below t.base t.top f.frame_size)
-
-  unframed_is : frame_below t.base t.top f.frame_size ≡ None → called ≡ no_frame (context_of t) ordinal
-  unframed_is none = ap (λ o. call_where m (ecalls m (context_of t)) (context_of t) ordinal f (λ frame. bytes) o) none
-
-  in_frame_is : (at : ℕ) → frame_below t.base t.top f.frame_size ≡ Some at → called ≡ call_in_frame m (ecalls m (context_of t)) (context_of t) ordinal f bytes at
-  in_frame_is at some = ap (λ o. call_where m (ecalls m (context_of t)) (context_of t) ordinal f (λ frame. bytes) o) some
-
-  -- a call whose frame does not fit
-  pub unframed_made : (same : TcsState) (port : PortState) (before after : RecordList) → same ≡ t → frame_below t.base t.top f.frame_size ≡ None
-      → (made : List CallRecord) × Runs (no_frame (context_of same) ordinal) (moment port before same) (moment port after same) made × (after ≡ with_records before made)
-      → (made : List CallRecord) × Runs called (moment port before t) (moment port after same) made × (after ≡ with_records before made) × (same ≡ record t { waits = same.waits })
-  unframed_made same port before after e none (made, run, grown) = (
-    made,
-    subst (λ x. Runs x (moment port before t) (moment port after same) made) (sym (unframed_is none))
-        (subst (λ u. Runs (no_frame (context_of u) ordinal) (moment port before u) (moment port after same) made) e run),
-    grown,
-    ap {A = TcsState} (λ (u : TcsState). record u { waits = same.waits }) e,
-  )
-
-  pub unframed_cut : (same : TcsState) (port : PortState) (before : RecordList) (full : RunFull) → same ≡ t → frame_below t.base t.top f.frame_size ≡ None
-      → StopsAt full (no_frame (context_of same) ordinal) (moment port before same) port → StopsAt full called (moment port before t) port
-  unframed_cut same port before full e none stopped =
-      subst (λ x. StopsAt full x (moment port before t) port) (sym (unframed_is none))
-      (subst (λ u. StopsAt full (no_frame (context_of u) ordinal) (moment port before u) port) e stopped)
-
-  module _ (moved : TcsState) (at : ℕ) (moved_is : moved ≡ record t { top = at }) (fits : frame_below t.base t.top f.frame_size ≡ Some at) (port : PortState) (before : RecordList) where
-    -- a call in a frame is cut
-    pub framed_cut : (full : RunFull) (new : PortState)
-        → ((cx : Context) → context_of moved ≡ record cx { top = at } → StopsAt full (call_in_frame m (ecalls m cx) cx ordinal f bytes at) (moment port before moved) new)
-        → StopsAt full called (moment port before t) new
-    framed_cut full new stopped =
-        subst (λ x. StopsAt full x (moment port before t) new) (sym (in_frame_is at fits))
-        (subst (λ w. StopsAt full (call_in_frame m (ecalls m (context_of t)) (context_of t) ordinal f bytes at) (progress port (records_left before) w) new)
-        (ap (λ u. u.waits) moved_is) (stopped (context_of t) (ap (λ u. context_of u) moved_is)))
-
-    -- a call in a frame is made, and the frame is given back
-    pub framed_made : (late last : TcsState) (new : PortState) (after : RecordList) → last ≡ record late { top = t.top }
-        → ((cx : Context) → context_of moved ≡ record cx { top = at } → (made : List CallRecord)
-        × Runs (call_in_frame m (ecalls m cx) cx ordinal f bytes at) (moment port before moved) (moment new after late) made
-        × (after ≡ with_records before made) × (late ≡ record moved { waits = late.waits }))
-        → (made : List CallRecord) × Runs called (moment port before t) (moment new after last) made × (after ≡ with_records before made) × (last ≡ record t { waits = last.waits })
-    framed_made late last new after back go =
-        let cx : Context = context_of t in
-        let all = go cx (ap (λ u. context_of u) moved_is) in
-        let waits : late.waits ≡ last.waits = sym (ap (λ u. u.waits) back) in (
-          all.0,
-          subst (λ x. Runs x (moment port before t) (moment new after last) all.0) (sym (in_frame_is at fits))
-              (subst (λ w. Runs (call_in_frame m (ecalls m cx) cx ordinal f bytes at) (progress port (records_left before) w) (moment new after last) all.0) (ap (λ u. u.waits) moved_is)
-              (subst (λ w. Runs (call_in_frame m (ecalls m cx) cx ordinal f bytes at) (moment port before moved) (progress new (records_left after) w) all.0) waits all.1)),
-          all.2,
-          back ∙ ap {A = TcsState} (λ (u : TcsState). record u { top = t.top }) all.3 ∙ ap {A = TcsState} (λ (u : TcsState). record u { waits = late.waits; top = t.top }) moved_is ∙ ap {B = TcsState} (λ (w : ℕ). record t { waits = w }) waits,
-        )
-
--- a call with a frame, whose lengths are found first
-module _ (m : Machine) (f : Function) (ordinal : ℕ) (args : List CallArg) (at : slice_get m.interface.ecalls ordinal ≡ Some f) (framed : has_frame f ≡ true) (t : TcsState)
-    (host : ℕ) (host_is : host ≡ m.script.settings.host) (old : PortState) where
-  abbrev found_call : Interaction (List CallRecord)
-  found_call = host_call m (ecalls m (context_of t)) (context_of t) 0 ordinal args
-
-  abbrev finding : Interaction (List ℕ)
-  finding = string_lengths host 0 (zip f.params args)
-
-  abbrev then_called : List ℕ → Interaction (List CallRecord)
-  then_called lengths = call_where m (ecalls m (context_of t)) (context_of t) ordinal f (λ frame. call_frame f 0 args lengths) (frame_below t.base t.top f.frame_size)
-
-  found_call_is : found_call ≡ and_then finding then_called
-  found_call_is = framed_is m (context_of t) f ordinal args at framed ∙ ap (λ h. and_then (string_lengths h 0 (zip f.params args)) then_called) (sym host_is)
-
-  pub finding_cut : (new : PortState) (before : RecordList) → StopsFull finding old new → StopsAt Steps found_call (moment old before t) new
-  finding_cut new before stopped =
-      subst (λ x. StopsAt Steps x (moment old before t) new) (sym found_call_is) (steps_full_then finding then_called old new (records_left before) t.waits stopped)
-
-  module _ (mid : PortState) (before : RecordList) (lengths bytes : List ℕ) (made : Makes finding old mid lengths) (bytes_are : bytes ≡ call_frame f 0 args lengths) where
-    abbrev with_bytes : List ℕ → Interaction (List CallRecord)
-    with_bytes frame_bytes = call_where m (ecalls m (context_of t)) (context_of t) ordinal f (λ frame. frame_bytes) (frame_below t.base t.top f.frame_size)
-
-    pub found_cut : (full : RunFull) (new : PortState) → StopsAt full (with_bytes bytes) (moment mid before t) new → StopsAt full found_call (moment old before t) new
-    found_cut full new stopped =
-        subst (λ x. StopsAt full x (moment old before t) new) (sym found_call_is)
-        (steps_stop_then full finding then_called old mid new (records_left before) t.waits lengths made
-        (subst (λ b. StopsAt full (with_bytes b) (moment mid before t) new) bytes_are stopped))
-
-    pub found_made : (last : TcsState) (new : PortState) (after : RecordList)
-        → (all : List CallRecord) × Runs (with_bytes bytes) (moment mid before t) (moment new after last) all × (after ≡ with_records before all) × (last ≡ record t { waits = last.waits })
-        → (all : List CallRecord) × Runs found_call (moment old before t) (moment new after last) all × (after ≡ with_records before all) × (last ≡ record t { waits = last.waits })
-    found_made last new after (all, run, grown, kept) = (
-      all,
-      subst (λ x. Runs x (moment old before t) (moment new after last) all) (sym found_call_is)
-          (steps_then finding then_called (ret all) old mid (records_left before) t.waits (moment new after last) lengths made
-          (subst (λ b. Runs (with_bytes b) (moment mid before t) (moment new after last) all) bytes_are run)),
+    pub frameless_made : (status : Status) (new : PortState) (after : RecordList) (last : TcsState)
+        → (out : Outcome) × (out.status ≡ status) × Runs (ecall m (context_of t) ordinal 0 Ordinary) (moment old before t) (moment new after last) out × (after ≡ with_records before out.records) × (last ≡ record t { waits = last.waits })
+        → MakesCalls (host_call m (ecalls m (context_of t)) (context_of t) place ordinal args) old new before after t last
+    frameless_made status new after last (out, ended, run, grown, kept) = (
+      out.records,
+      subst (λ u. Runs u (moment old before t) (moment new after last) out.records) (sym frameless)
+          (reaches_first (ecall m (context_of t) ordinal 0 Ordinary) (ret out) (λ o. ret o.records) (moment old before t) (moment new after last) run),
       grown,
       kept,
     )
 
--- a call without a frame is its entry
-module _ (m : Machine) (no_workers : m.script.settings.tworkers ≡ 0) (f : Function) (ordinal : ℕ) (args : List CallArg) (at : slice_get m.interface.ecalls ordinal ≡ Some f) (framed : has_frame f ≡ false)
-    (cx : Context) (before : Progress) where
-  frameless : host_call m (ecalls m cx) cx 0 ordinal args ≡ map_value (λ out. out.records) (ecall m cx ordinal 0 Ordinary)
-  frameless = frameless_is m no_workers cx f ordinal args at framed
+  -- a call with a frame
+  module _ (f : Function) (place ordinal : ℕ) (args : List CallArg) (found : slice_get m.interface.ecalls ordinal ≡ Some f)
+      (old : PortState) (host_is : old.host ≡ m.script.settings.host) (before : RecordList) (t : TcsState) where
+    -- the call, as one whatever ECALLs do
+    abbrev pub this_call : AnyCall old.host
+    this_call = record { machine = m; host_is = sym host_is; ecalls = ecalls m (context_of t); ordinal = ordinal }
 
-  pub frameless_cut : (full : RunFull) (new : PortState) → StopsAt full (ecall m cx ordinal 0 Ordinary) before new → StopsAt full (host_call m (ecalls m cx) cx 0 ordinal args) before new
-  frameless_cut full new stopped =
-      subst (λ t. StopsAt full t before new) (sym frameless) (stops_first full (ecall m cx ordinal 0 Ordinary) (λ out. ret out.records) before new stopped)
+    abbrev calling : Interaction (List CallRecord)
+    calling = host_call m (ecalls m (context_of t)) (context_of t) place ordinal args
 
-  pub frameless_made : (after : Progress) (out : Outcome) → Runs (ecall m cx ordinal 0 Ordinary) before after out → Runs (host_call m (ecalls m cx) cx 0 ordinal args) before after out.records
-  frameless_made after out run =
-      subst (λ t. Runs t before after out.records) (sym frameless) (reaches_first (ecall m cx ordinal 0 Ordinary) (ret out) (λ o. ret o.records) before after run)
+    calling_is : calling ≡ call_of this_call (context_of t) place f args
+    calling_is = ap (λ o. call_to m (ecalls m (context_of t)) (context_of t) place ordinal args o) found
 
--- an entry at an address of the script's own
-module _ (m : Machine) (cx : Context) (ordinal at : ℕ) (before : Progress) where
-  entered_raw : raw_call (ecalls m cx) cx ordinal at ≡ map_value (λ out. out.records) (ecall m cx ordinal at Ordinary)
+    -- it is cut before its entry
+    pub framing_cut : (new : PortState) → StopsFull (call_of this_call (context_of t) place f args) old new
+        → StopsAt Steps (host_call m (ecalls m (context_of t)) (context_of t) place ordinal args) (moment old before t) new
+    framing_cut new stopped =
+        subst (λ u. StopsAt Steps u (moment old before t) new) (sym calling_is) (steps_stop (call_of this_call (context_of t) place f args) old new (records_left before) t.waits stopped)
+
+    came_to : (mid : PortState) (now : TcsState) (rest : Interaction (List CallRecord)) → now.waits ≡ t.waits → Leads (call_of this_call (context_of t) place f args) old mid rest
+        → Reaches calling (moment old before t) (moment mid before now) rest
+    came_to mid now rest waits leads =
+        subst (λ u. Reaches u (moment old before t) (moment mid before now) rest) (sym calling_is)
+        (subst (λ w. Reaches (call_of this_call (context_of t) place f args) (moment old before t) (progress mid (records_left before) w) rest) (sym waits)
+        (steps_reach (call_of this_call (context_of t) place f args) rest old mid (records_left before) t.waits leads))
+
+    -- its frame does not fit
+    module _ (new : PortState) (now : TcsState) (framed : IsFramed f args place old new t now None) where
+      leads_to_none : Reaches calling (moment old before t) (moment new before now) (no_frame (context_of now) ordinal)
+      leads_to_none =
+          subst (λ (u : TcsState). Reaches calling (moment old before t) (moment new before now) (no_frame (context_of u) ordinal)) (sym framed.1)
+          (came_to new now (no_frame (context_of t) ordinal) (ap (λ (u : TcsState). u.waits) framed.1) (framed.0 this_call))
+
+      pub unframed_cut : (full : RunFull) → StopsAt full (no_frame (context_of now) ordinal) (moment new before now) new
+          → StopsAt full (host_call m (ecalls m (context_of t)) (context_of t) place ordinal args) (moment old before t) new
+      unframed_cut full stopped = stops_on full calling (no_frame (context_of now) ordinal) (moment old before t) (moment new before now) new leads_to_none stopped
+
+      pub unframed_made : (after : RecordList)
+          → (made : List CallRecord) × Runs (no_frame (context_of now) ordinal) (moment new before now) (moment new after now) made × (after ≡ with_records before made)
+          → MakesCalls (host_call m (ecalls m (context_of t)) (context_of t) place ordinal args) old new before after t now
+      unframed_made after (made, run, grown) = (
+        made,
+        reaches_on calling (no_frame (context_of now) ordinal) (ret made) (moment old before t) (moment new before now) (moment new after now) leads_to_none run,
+        grown,
+        ap {A = TcsState} (λ (u : TcsState). record u { waits = now.waits }) framed.1,
+      )
+
+    -- its frame is written
+    module _ (mid : PortState) (moved : TcsState) (frame : Frame) (framed : IsFramed f args place old mid t moved (Some frame)) where
+      abbrev entering : Interaction Outcome
+      entering = ecall m (context_of moved) ordinal frame.at Ordinary
+
+      moved_is : moved ≡ record t { top = frame.at }
+      moved_is = framed.3
+
+      entering_is : entry_of this_call (context_of t) f frame.at ≡ and_then entering (with_return f frame.at)
+      entering_is =
+          ap (λ u. and_then u (with_return f frame.at)) (entered_is (context_of t) f ordinal frame.at)
+          ∙ ap (λ (u : TcsState). and_then (ecall m (context_of u) ordinal frame.at Ordinary) (with_return f frame.at)) (sym moved_is)
+
+      leads_to_entry : Reaches calling (moment old before t) (moment mid before moved) (and_then entering (with_return f frame.at))
+      leads_to_entry =
+          subst (λ u. Reaches calling (moment old before t) (moment mid before moved) u) entering_is
+          (came_to mid moved (entry_of this_call (context_of t) f frame.at) (ap (λ (u : TcsState). u.waits) moved_is) (framed.0 this_call))
+
+      -- the entry is cut
+      pub entering_cut : (full : RunFull) (new : PortState) → StopsAt full (ecall m (context_of moved) ordinal frame.at Ordinary) (moment mid before moved) new
+          → StopsAt full (host_call m (ecalls m (context_of t)) (context_of t) place ordinal args) (moment old before t) new
+      entering_cut full new stopped =
+          stops_on full calling (and_then entering (with_return f frame.at)) (moment old before t) (moment mid before moved) new leads_to_entry
+          (stops_first full entering (with_return f frame.at) (moment mid before moved) new stopped)
+
+      module _ (end : PortState) (after : RecordList) (late : TcsState) (out : Outcome) (run : Runs (ecall m (context_of moved) ordinal frame.at Ordinary) (moment mid before moved) (moment end after late) out) where
+        -- the log is full as the return is loaded
+        pub returning_cut : (new : PortState) → StopsFull (with_return f frame.at out) end new
+            → StopsAt Steps (host_call m (ecalls m (context_of t)) (context_of t) place ordinal args) (moment old before t) new
+        returning_cut new stopped =
+            stops_on Steps calling (and_then entering (with_return f frame.at)) (moment old before t) (moment mid before moved) new leads_to_entry
+            (stops_second Steps entering (with_return f frame.at) (moment mid before moved) (moment end after late) new out run
+            (steps_stop (with_return f frame.at out) end new (records_left after) late.waits stopped))
+
+        -- the call is made, and its frame is given back
+        pub framed_made : (new : PortState) (last : TcsState) → after ≡ with_records before out.records → late ≡ record moved { waits = late.waits } → last ≡ record late { top = frame.old_top }
+            → Makes (with_return f frame.at out) end new out.records
+            → MakesCalls (host_call m (ecalls m (context_of t)) (context_of t) place ordinal args) old new before after t last
+        framed_made new last grown kept back made =
+            let waits : late.waits ≡ last.waits = sym (ap (λ (u : TcsState). u.waits) back) in
+            let top : frame.old_top ≡ t.top = framed.2 in (
+              out.records,
+              reaches_on calling (and_then entering (with_return f frame.at)) (ret out.records) (moment old before t) (moment mid before moved) (moment new after last) leads_to_entry
+                  (reaches_then entering (with_return f frame.at) (ret out.records) (moment mid before moved) (moment end after late) (moment new after last) out run
+                  (subst (λ w. Runs (with_return f frame.at out) (moment end after late) (progress new (records_left after) w) out.records) waits
+                  (steps_reach (with_return f frame.at out) (ret out.records) end new (records_left after) late.waits made))),
+              grown,
+              back ∙ ap {B = TcsState} (λ (n : ℕ). record late { top = n }) top ∙ ap {A = TcsState} (λ (u : TcsState). record u { top = t.top }) kept
+                  ∙ ap {A = TcsState} (λ (u : TcsState). record u { waits = late.waits; top = t.top }) moved_is ∙ ap {B = TcsState} (λ (w : ℕ). record t { waits = w }) waits,
+            )
+
+-- what holds where the frame of a call is written
+module _ (m : Machine) (f : Function) (args : List CallArg) (place : ℕ) (old mid : PortState) (t moved : TcsState) (frame : Frame) (framed : IsFramed f args place old mid t moved (Some frame)) where
+  pub framed_may : MayEnter m.interface t.stack → MayEnter m.interface moved.stack
+  framed_may may = subst (λ (u : TcsState). MayEnter m.interface u.stack) (sym framed.3) may
+
+  pub framed_entries : length moved.stack ≡ length t.stack
+  framed_entries = ap (λ (u : TcsState). length u.stack) framed.3
+
+  pub frame_from : HasStackInHost m t → host_start ≤ frame.at
+  frame_from within =
+      let lies : (t.base ≤ frame.at) × (frame.at + f.frame_size ≤ t.top) = frame_region t.base t.top f.frame_size frame.at framed.1 in
+      let from : host_start ≤ t.base = within.0 in
+      omega (arith, from, lies.0)
+
+  frame_upto : HasStackInHost m t → frame.at + f.frame_size ≤ host_start + m.script.settings.host
+  frame_upto within =
+      let lies : (t.base ≤ frame.at) × (frame.at + f.frame_size ≤ t.top) = frame_region t.base t.top f.frame_size frame.at framed.1 in
+      let upto : t.top ≤ host_start + m.script.settings.host = within.1 in
+      omega (arith, upto, lies.1)
+
+  pub framed_in_host : HasStackInHost m t → HasStackInHost m moved
+  framed_in_host within =
+      let upto : frame.at + f.frame_size ≤ host_start + m.script.settings.host = frame_upto within in
+      let top : frame.at ≤ host_start + m.script.settings.host = omega (arith, upto) in
+      subst (λ (u : TcsState). HasStackInHost m u) (sym framed.3) (within.0, top)
+
+  pub framed_port : IsPortOf m old → IsPortOf m mid
+  framed_port is =
+      let any : AnyCall old.host = record { machine = m; host_is = sym is.host_is; ecalls = ecalls m (context_of t); ordinal = 0 } in
+      let grown : mid ≡ with_steps old (framed.0 any).steps = (framed.0 any).grown in
+      record {
+        host_is = ap (λ (s : PortState). s.host) grown ∙ is.host_is;
+        words_are = ap (λ (s : PortState). s.words) grown ∙ is.words_are;
+      }
+
+  pub frame_ends : HasStackInHost m t → IsPortOf m old → (entered : Interaction Outcome) (before after : RecordList) (late : TcsState) (end : PortState) (out : Outcome)
+      → Runs entered (moment mid before moved) (moment end after late) out → frame.at + f.frame_size ≤ host_start + end.host
+  frame_ends within is entered before after late end out run =
+      let same : end.host ≡ m.script.settings.host = ap (λ (s : PortState). s.host) run.grown ∙ (framed_port is).host_is in
+      let upto : frame.at + f.frame_size ≤ host_start + m.script.settings.host = frame_upto within in
+      omega (arith, same, upto)
+
+-- ---- after the entry
+
+return_is : (f : Function) (at : ℕ) (out : Outcome) → is_success out.status ≡ true → with_return f at out ≡ map_value (λ loaded. out.records) (loads Host at (return_size f))
+return_is f at out e = rw e refl
+
+no_return_is : (f : Function) (at : ℕ) (out : Outcome) → is_success out.status ≡ false → with_return f at out ≡ ret out.records
+no_return_is f at out e = rw e refl
+
+pub success_of : (status given : Status) → given ≡ status → false ≡ not (is_success status) → is_success given ≡ true
+success_of status given same e = ap (λ s. is_success s) same ∙ by_bool (is_success status) e
+  where
+    by_bool : (b : Bool) → false ≡ not b → b ≡ true
+    by_bool true e = refl
+    by_bool false e = cc
+
+pub return_loaded : (f : Function) (at size : ℕ) (out : Outcome) (old new : PortState) → is_success out.status ≡ true → size ≡ return_size f
+    → (loaded : List ℕ) × Makes (loads Host at size) old new loaded → Makes (with_return f at out) old new out.records
+return_loaded f at size out old new e size_is (loaded, made) =
+    subst (λ u. Makes u old new out.records) (sym (return_is f at out e))
+    (leads_first (loads Host at (return_size f)) (ret loaded) (λ bytes. ret out.records) old new (subst (λ n. Makes (loads Host at n) old new loaded) size_is made))
+
+pub return_cut : (f : Function) (at size : ℕ) (out : Outcome) (old new : PortState) → is_success out.status ≡ true → size ≡ return_size f
+    → (full : RunFull) → IsCutShort (loads Host at size) old new full → IsCutShort (with_return f at out) old new full
+return_cut f at size out old new e size_is full (steps, stopped) = (
+  steps,
+  subst (λ u. StopsFull u old new) (sym (return_is f at out e))
+      (full_first (loads Host at (return_size f)) (λ bytes. ret out.records) old new (subst (λ n. StopsFull (loads Host at n) old new) size_is stopped)),
+)
+
+pub nothing_loaded : (f : Function) (at : ℕ) (out : Outcome) (now : PortState) → is_success out.status ≡ false → Makes (with_return f at out) now now out.records
+nothing_loaded f at out now e = subst (λ u. Makes u now now out.records) (sym (no_return_is f at out e)) (makes_ret out.records now)
+
+-- ---- an entry at an address of the script's own
+
+module _ (m : Machine) (ordinal at : ℕ) (old : PortState) (before : RecordList) (t : TcsState) where
+  entered_raw : raw_call (ecalls m (context_of t)) (context_of t) ordinal at ≡ map_value (λ out. out.records) (ecall m (context_of t) ordinal at Ordinary)
   unfolding ecall
   entered_raw = refl
 
-  pub raw_cut : (full : RunFull) (new : PortState) → StopsAt full (ecall m cx ordinal at Ordinary) before new → StopsAt full (raw_call (ecalls m cx) cx ordinal at) before new
+  pub raw_cut : (full : RunFull) (new : PortState) → StopsAt full (ecall m (context_of t) ordinal at Ordinary) (moment old before t) new
+      → StopsAt full (raw_call (ecalls m (context_of t)) (context_of t) ordinal at) (moment old before t) new
   raw_cut full new stopped =
-      subst (λ t. StopsAt full t before new) (sym entered_raw) (stops_first full (ecall m cx ordinal at Ordinary) (λ out. ret out.records) before new stopped)
+      subst (λ u. StopsAt full u (moment old before t) new) (sym entered_raw) (stops_first full (ecall m (context_of t) ordinal at Ordinary) (λ out. ret out.records) (moment old before t) new stopped)
 
-  pub raw_made : (after : Progress) (out : Outcome) → Runs (ecall m cx ordinal at Ordinary) before after out → Runs (raw_call (ecalls m cx) cx ordinal at) before after out.records
-  raw_made after out run =
-      subst (λ t. Runs t before after out.records) (sym entered_raw) (reaches_first (ecall m cx ordinal at Ordinary) (ret out) (λ o. ret o.records) before after run)
+  pub raw_made : (status : Status) (new : PortState) (after : RecordList) (last : TcsState)
+      → (out : Outcome) × (out.status ≡ status) × Runs (ecall m (context_of t) ordinal at Ordinary) (moment old before t) (moment new after last) out × (after ≡ with_records before out.records) × (last ≡ record t { waits = last.waits })
+      → MakesCalls (raw_call (ecalls m (context_of t)) (context_of t) ordinal at) old new before after t last
+  raw_made status new after last (out, ended, run, grown, kept) = (
+    out.records,
+    subst (λ u. Runs u (moment old before t) (moment new after last) out.records) (sym entered_raw)
+        (reaches_first (ecall m (context_of t) ordinal at Ordinary) (ret out) (λ o. ret o.records) (moment old before t) (moment new after last) run),
+    grown,
+    kept,
+  )

@@ -1,5 +1,5 @@
 -- The frame that the host writes for a call, field by field.
-use Rattle.std.proofs.Common.{ℕ, zero, suc, ◌+◌, ◌-◌, ◌/◌, ◌%◌, ◌<◌, ◌≤◌, ◌≡◌, List, [], ◌∷◌, ◌++◌, length, take, drop, fold, zip, replicate, Some, slice_get, get_or, All, refl, ap, sym, ◌∙◌, subst, arith}
+use Rattle.std.proofs.Common.{ℕ, zero, suc, ◌+◌, ◌-◌, ◌^◌, ◌/◌, ◌%◌, ◌<◌, ◌≤◌, ◌≡◌, List, [], ◌∷◌, ◌++◌, length, take, drop, fold, zip, replicate, Some, slice_get, get_or, All, refl, ap, sym, ◌∙◌, subst, arith}
 use Rattle.std.proofs.lemmas.List.{take-replicate, length-replicate}
 use Rattle.std.proofs.lemmas.List.Elements.{All-get_or}
 use Rattle.std.proofs.lemmas.Option.{slice_get_within, get_or_from_slice_get, slice_get_read}
@@ -13,28 +13,40 @@ use Rattle.edl_interface.specs.Parameters.{field_size, IsWordSized}
 use Rattle.call_script.specs.declared.CallArg.{CallArg}
 use Rattle.call_script.specs.declared.CallArg.TheVariants.{At, Null, Number, Bytes}
 use Rattle.call_script.specs.declared.Place.{Place}
-use Rattle.call_machine.specs.Calls.{with_field, with_lengths}
-use Rattle.call_machine.specs.PlainScript.{IsArgument, AreArguments}
+use Rattle.call_machine.specs.Calls.{argument_address, with_field, with_lengths}
+use Rattle.call_machine.specs.FramedCalls.{IsArgument, AreArguments}
 
 -- the frame once the fields of these arguments are written too
-abbrev pub filled : List ℕ → List Param → List CallArg → List ℕ → List ℕ
-filled frame ps args lengths = fold (with_field 0) frame (with_lengths (zip ps args) lengths)
+abbrev pub filled : ℕ → List ℕ → List Param → List CallArg → List ℕ → List ℕ
+filled place frame ps args lengths = fold (with_field place) frame (with_lengths (zip ps args) lengths)
 
-pub same_lengths : (ps : List Param) (args : List CallArg) → AreArguments ps args → length args ≡ length ps
-same_lengths [] [] h = refl
-same_lengths [] (a ∷ args) h = absurd h
-same_lengths (p ∷ ps) [] h = absurd h
-same_lengths (p ∷ ps) (a ∷ args) h = ap suc (same_lengths ps args h.1)
+pub same_lengths : (place : ℕ) (ps : List Param) (args : List CallArg) → AreArguments place ps args → length args ≡ length ps
+same_lengths place [] [] h = refl
+same_lengths place [] (a ∷ args) h = absurd h
+same_lengths place (p ∷ ps) [] h = absurd h
+same_lengths place (p ∷ ps) (a ∷ args) h = ap suc (same_lengths place ps args h.1)
 
 -- the argument of a parameter fits it
-pub argument_at : (ps : List Param) (args : List CallArg) (i : ℕ) (p : Param) (arg : CallArg) → AreArguments ps args → slice_get ps i ≡ Some p → slice_get args i ≡ Some arg → IsArgument p.class arg
-argument_at [] [] i p arg h e k = cc
-argument_at [] (a ∷ args) i p arg h e k = absurd h
-argument_at (q ∷ ps) [] i p arg h e k = absurd h
-argument_at (q ∷ ps) (a ∷ args) zero p arg h e k =
+pub argument_at : (place : ℕ) (ps : List Param) (args : List CallArg) (i : ℕ) (p : Param) (arg : CallArg) → AreArguments place ps args → slice_get ps i ≡ Some p → slice_get args i ≡ Some arg → IsArgument place p.class arg
+argument_at place [] [] i p arg h e k = cc
+argument_at place [] (a ∷ args) i p arg h e k = absurd h
+argument_at place (q ∷ ps) [] i p arg h e k = absurd h
+argument_at place (q ∷ ps) (a ∷ args) zero p arg h e k =
     let same : a ≡ arg = cc in let param : q ≡ p = cc in
-    subst (λ x. IsArgument x.class arg) param (subst (λ x. IsArgument q.class x) same h.0)
-argument_at (q ∷ ps) (a ∷ args) (suc i) p arg h e k = argument_at ps args i p arg h.1 e k
+    subst (λ x. IsArgument place x.class arg) param (subst (λ x. IsArgument place q.class x) same h.0)
+argument_at place (q ∷ ps) (a ∷ args) (suc i) p arg h e k = argument_at place ps args i p arg h.1 e k
+
+-- an argument's address has 64 bits
+pub address_fits : (place : ℕ) (class : Class) (arg : CallArg) → IsArgument place class arg → argument_address place arg < 2 ^ 64
+address_fits place class Null h = omega arith
+address_fits place class (Number n) h = omega arith
+address_fits place class (Bytes bytes) h = omega arith
+address_fits place (by_value plain) (At at) h = absurd h
+address_fits place UserCheck (At at) h = h
+address_fits place (Buffer way size count unit) (At at) h = h
+address_fits place (Text way unit) (At at) h = h
+address_fits place (Fixed way length unit) (At at) h = h
+address_fits place (Foreign way) (At at) h = h
 
 -- what holds of all holds of the one at a place
 pub all_at : {X : Type 0} (P : X → Type 0) (xs : List X) (i : ℕ) (x : X) → All P xs → slice_get xs i ≡ Some x → P x
@@ -80,37 +92,37 @@ zeros_taken n m h =
     ap (λ (l : List ℕ). length l) same ∙ size
 
 -- the sizes of fields, by their arguments
-pub size_at_address : (class : Class) (place : Place) → IsArgument class (At place) → field_size class ≤ 8
-size_at_address (by_value plain) place h = absurd h
-size_at_address UserCheck place h = omega arith
-size_at_address (Buffer way size count unit) place h = omega arith
-size_at_address (Text way unit) place h = omega arith
-size_at_address (Fixed way length unit) place h = omega arith
-size_at_address (Foreign way) place h = omega arith
+pub size_at_address : (frame : ℕ) (class : Class) (place : Place) → IsArgument frame class (At place) → field_size class ≤ 8
+size_at_address frame (by_value plain) place h = absurd h
+size_at_address frame UserCheck place h = omega arith
+size_at_address frame (Buffer way size count unit) place h = omega arith
+size_at_address frame (Text way unit) place h = omega arith
+size_at_address frame (Fixed way length unit) place h = omega arith
+size_at_address frame (Foreign way) place h = omega arith
 
-pub size_at_null : (class : Class) → IsArgument class Null → field_size class ≤ 8
-size_at_null (by_value plain) h = absurd h
-size_at_null UserCheck h = omega arith
-size_at_null (Buffer way size count unit) h = omega arith
-size_at_null (Text way unit) h = omega arith
-size_at_null (Fixed way length unit) h = omega arith
-size_at_null (Foreign way) h = omega arith
+pub size_at_null : (frame : ℕ) (class : Class) → IsArgument frame class Null → field_size class ≤ 8
+size_at_null frame (by_value plain) h = absurd h
+size_at_null frame UserCheck h = omega arith
+size_at_null frame (Buffer way size count unit) h = omega arith
+size_at_null frame (Text way unit) h = omega arith
+size_at_null frame (Fixed way length unit) h = omega arith
+size_at_null frame (Foreign way) h = omega arith
 
-pub size_at_number : (class : Class) (n : ℕ) → IsWordSized class → IsArgument class (Number n) → field_size class ≤ 8
-size_at_number (by_value plain) n word h = word h.0
-size_at_number UserCheck n word h = absurd h
-size_at_number (Buffer way size count unit) n word h = absurd h
-size_at_number (Text way unit) n word h = absurd h
-size_at_number (Fixed way length unit) n word h = absurd h
-size_at_number (Foreign way) n word h = absurd h
+pub size_at_number : (frame : ℕ) (class : Class) (n : ℕ) → IsWordSized class → IsArgument frame class (Number n) → field_size class ≤ 8
+size_at_number frame (by_value plain) n word h = word h.integer
+size_at_number frame UserCheck n word h = absurd h
+size_at_number frame (Buffer way size count unit) n word h = absurd h
+size_at_number frame (Text way unit) n word h = absurd h
+size_at_number frame (Fixed way length unit) n word h = absurd h
+size_at_number frame (Foreign way) n word h = absurd h
 
-pub size_at_bytes : (class : Class) (bytes : List ℕ) → IsArgument class (Bytes bytes) → length bytes ≡ field_size class
-size_at_bytes (by_value plain) bytes h = h.1
-size_at_bytes UserCheck bytes h = absurd h
-size_at_bytes (Buffer way size count unit) bytes h = absurd h
-size_at_bytes (Text way unit) bytes h = absurd h
-size_at_bytes (Fixed way length unit) bytes h = absurd h
-size_at_bytes (Foreign way) bytes h = absurd h
+pub size_at_bytes : (frame : ℕ) (class : Class) (bytes : List ℕ) → IsArgument frame class (Bytes bytes) → length bytes ≡ field_size class
+size_at_bytes frame (by_value plain) bytes h = h.size
+size_at_bytes frame UserCheck bytes h = absurd h
+size_at_bytes frame (Buffer way size count unit) bytes h = absurd h
+size_at_bytes frame (Text way unit) bytes h = absurd h
+size_at_bytes frame (Fixed way length unit) bytes h = absurd h
+size_at_bytes frame (Foreign way) bytes h = absurd h
 
 pub drop_at : {X : Type 0} (xs : List X) (i : ℕ) (x : X) → slice_get xs i ≡ Some x → drop i xs ≡ x ∷ drop (i + 1) xs
 drop_at [] i x e = cc
@@ -126,19 +138,19 @@ drop_past (x ∷ xs) zero h = absurd (omega (arith, h))
 drop_past (x ∷ xs) (suc i) h = let below : length xs ≤ i = omega (arith, h) in drop_past xs i below
 
 -- one more field is written
-pub fill_more : (ps : List Param) (args : List CallArg) (lengths : List ℕ) (i n : ℕ) (p : Param) (arg : CallArg) (frame next whole : List ℕ)
-    → slice_get ps i ≡ Some p → slice_get args i ≡ Some arg → slice_get lengths i ≡ Some n → next ≡ with_field 0 frame (p, arg, n)
-    → filled frame (drop i ps) (drop i args) (drop i lengths) ≡ whole
-    → filled next (drop (i + 1) ps) (drop (i + 1) args) (drop (i + 1) lengths) ≡ whole
-fill_more ps args lengths i n p arg frame next whole p_at arg_at n_at e now =
-    ap (λ x. filled x (drop (i + 1) ps) (drop (i + 1) args) (drop (i + 1) lengths)) e
-    ∙ sym (ap (λ l. filled frame l (drop i args) (drop i lengths)) (drop_at ps i p p_at)
-    ∙ ap (λ l. filled frame (p ∷ drop (i + 1) ps) l (drop i lengths)) (drop_at args i arg arg_at)
-    ∙ ap (λ l. filled frame (p ∷ drop (i + 1) ps) (arg ∷ drop (i + 1) args) l) (drop_at lengths i n n_at))
+pub fill_more : (place : ℕ) (ps : List Param) (args : List CallArg) (lengths : List ℕ) (i n : ℕ) (p : Param) (arg : CallArg) (frame next whole : List ℕ)
+    → slice_get ps i ≡ Some p → slice_get args i ≡ Some arg → slice_get lengths i ≡ Some n → next ≡ with_field place frame (p, arg, n)
+    → filled place frame (drop i ps) (drop i args) (drop i lengths) ≡ whole
+    → filled place next (drop (i + 1) ps) (drop (i + 1) args) (drop (i + 1) lengths) ≡ whole
+fill_more place ps args lengths i n p arg frame next whole p_at arg_at n_at e now =
+    ap (λ x. filled place x (drop (i + 1) ps) (drop (i + 1) args) (drop (i + 1) lengths)) e
+    ∙ sym (ap (λ l. filled place frame l (drop i args) (drop i lengths)) (drop_at ps i p p_at)
+    ∙ ap (λ l. filled place frame (p ∷ drop (i + 1) ps) l (drop i lengths)) (drop_at args i arg arg_at)
+    ∙ ap (λ l. filled place frame (p ∷ drop (i + 1) ps) (arg ∷ drop (i + 1) args) l) (drop_at lengths i n n_at))
     ∙ now
 
 -- all fields are written
-pub fill_end : (ps : List Param) (args : List CallArg) (lengths : List ℕ) (i : ℕ) (frame whole : List ℕ) → length ps ≤ i
-    → filled frame (drop i ps) (drop i args) (drop i lengths) ≡ whole → frame ≡ whole
-fill_end ps args lengths i frame whole all now =
-    sym (ap (λ l. filled frame l (drop i args) (drop i lengths)) (drop_past ps i all)) ∙ now
+pub fill_end : (place : ℕ) (ps : List Param) (args : List CallArg) (lengths : List ℕ) (i : ℕ) (frame whole : List ℕ) → length ps ≤ i
+    → filled place frame (drop i ps) (drop i args) (drop i lengths) ≡ whole → frame ≡ whole
+fill_end place ps args lengths i frame whole all now =
+    sym (ap (λ l. filled place frame l (drop i args) (drop i lengths)) (drop_past ps i all)) ∙ now

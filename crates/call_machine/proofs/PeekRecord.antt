@@ -16,7 +16,7 @@ use Rattle.call_report.specs.RecordList.{RecordList, records_left, with_records}
 use Rattle.call_machine.specs.Acts.{mapped_loads, peek_record, peek}
 use Rattle.call_machine.specs.Made.{MakesCalls}
 use Rattle.call_machine.specs.Tcs.{TcsState}
-use Rattle.call_machine.proofs.EcallRecord.{record_set, one_record_less}
+use Rattle.call_machine.proofs.RecordPlace.{record_set, one_record_less, no_records}
 
 module _ (host depth address count : ℕ) where
   abbrev peeking : Interaction (List CallRecord)
@@ -53,7 +53,7 @@ module _ (host depth address count : ℕ) where
       → first ≡ length old.log → last ≡ length new.log → Makes (mapped_loads Host host address count) old new tt
       → MakesCalls peeking old new before set t t
   peek_ends first last place d t before pushed set old new begun ended depth_is less ended_is push_is place_is set_is begins ends made =
-      let listed : set ≡ with_records before (ended ∷ []) = record_set before pushed set begun ended place push_is place_is set_is in
+      let listed : set ≡ with_records before (ended ∷ []) = record_set before pushed pushed begun [] place push_is place_is (no_records pushed) set ended set_is in
       let one : ended ∷ [] ≡ peek_record depth address first last ∷ [] =
       ap (λ (x : CallRecord). x ∷ []) ended_is ∙ ap (λ n. peek_record n address first last ∷ []) depth_is in (
         peek_record depth address first last ∷ [],

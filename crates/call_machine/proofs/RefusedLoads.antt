@@ -1,10 +1,10 @@
 -- A refused entry has made loads by the enclave alone, whatever OCALLs do.
-use Rattle.std.proofs.Common.{ℕ, zero, suc, ◌+◌, ◌≡◌, ◌≢◌, ◌==◌, true, false, if◌then◌else◌, List, [], ◌∷◌, replicate, All, Option, Some, None, Result, Ok, Err, slice_get, refl, sym, subst}
+use Rattle.std.proofs.Common.{ℕ, zero, suc, ◌+◌, ◌≡◌, ◌==◌, true, false, if◌then◌else◌, List, [], ◌∷◌, replicate, map, All, Option, Some, None, Result, Ok, Err, slice_get, refl, sym, subst}
 use Rattle.std.proofs.lemmas.List.Elements.{All-nil, All-cons}
 use Rattle.sgx_base.specs.Passing.{is_inward}
 use Rattle.sgx_base.specs.Rows.{first_row, unless_refused}
 use Rattle.sgx_base.specs.declared.Status.{Status}
-use Rattle.sgx_base.specs.declared.TheConstants.Status.{SUCCESS, INVALID_FUNCTION}
+use Rattle.sgx_base.specs.declared.TheConstants.Status.{INVALID_FUNCTION}
 use Rattle.edl_interface.specs.declared.Function.{Function}
 use Rattle.edl_interface.specs.declared.Param.{Param}
 use Rattle.edl_interface.specs.Parameters.{marshalled, address_in}
@@ -17,20 +17,19 @@ use Rattle.word_port.specs.Events.{Event, made, ticked, placed, steps_of}
 use Rattle.word_port.specs.Interaction.{Interaction, ret, ask, here, tick, and_then, IsAfter, AllRequests}
 use Rattle.word_port.specs.Accesses.{loads}
 use Rattle.word_port.specs.Port.{PortState}
+use Rattle.word_port.specs.Runs.{Makes}
+use Rattle.word_port.proofs.Laws.{steps_of-made}
 use Rattle.word_port.proofs.RequestLaws.{AllSteps, all_and_then}
 use Rattle.call_copy.specs.declared.Shape.{Shape}
 use Rattle.call_copy.specs.Copies.{block_rows, first_bytes, checked_bytes, copy_unless, copy_in}
-use Rattle.call_report.specs.declared.CallRecord.{CallRecord}
 use Rattle.call_machine.specs.declared.Machine.{Machine}
-use Rattle.call_machine.specs.declared.entry.Entered.{Entered}
-use Rattle.call_machine.specs.declared.entry.Entered.TheVariants.{Answered as answered, Refused}
 use Rattle.call_machine.specs.Context.{Context, context_in_ecall}
 use Rattle.call_machine.specs.Refusal.{frame_rows, field_rows}
 use Rattle.bridge_program.specs.Entry.{entry_rows}
 use Rattle.call_machine.specs.Result.{and_then_ok, go_on_if_ok}
 use Rattle.call_machine.specs.Thread.{no_ocalls}
 use Rattle.call_machine.specs.Ecall.{Copies, with_first, Ocalls, Answered, Finished, copies_in, shape_of, interpret, body_of, put_answer, body_and_answer, loaded_entry, admitted_entry, entry_at, entered}
-use Rattle.call_machine.specs.Entry.{IsEnclaveLoad, OnlyLoads, EntryRuns, some_copy, copy_of, ended_record}
+use Rattle.call_machine.specs.Entry.{IsEnclaveLoad, OnlyLoads, some_copy, copy_of}
 use Rattle.call_machine.proofs.Results.{AllResults, results_after, result_of_run}
 use Rattle.call_machine.proofs.CopyResults.{room_after, copies_after, copies_in-cons}
 
@@ -156,13 +155,13 @@ all_loads [] p = All-nil IsEnclaveLoad
 all_loads (s ∷ steps) p = All-cons IsEnclaveLoad s steps (p.0.side, p.0.kind) (all_loads steps p.1)
 
 -- the steps of a refused entry
-refused_only : (m : Machine) (cx : Context) (ordinal address : ℕ) (old new : PortState) (status : Status) → EntryRuns m cx ordinal address old new (Refused status) → OnlyLoads old new
+pub refused_only : (m : Machine) (cx : Context) (ordinal address : ℕ) (old new : PortState) (status : Status)
+    → ((ocalls : Ocalls) → Makes (entered m ocalls cx ordinal address) old new (Err status)) → OnlyLoads old new
 refused_only m cx ordinal address old new status runs =
-    let r = runs no_ocalls 0 0 in
-    record { steps = steps_of r.events; grown = r.grown; loads = all_loads (steps_of r.events) (refused_loads m no_ocalls cx ordinal address r.events status r.begun) }
-
--- an entry whose status is not SUCCESS is a refused one
-pub only_loads : (m : Machine) (cx : Context) (ordinal address : ℕ) (old new : PortState) (begun : CallRecord) (first last : ℕ) (status : Status) (answer : Entered)
-    → EntryRuns m cx ordinal address old new answer → status ≡ (ended_record begun first last answer).status → status ≢ SUCCESS → OnlyLoads old new
-only_loads m cx ordinal address old new begun first last status (answered turn) runs is other = absurd (other is)
-only_loads m cx ordinal address old new begun first last status (Refused refusal) runs is other = refused_only m cx ordinal address old new refusal runs
+    let r : Makes (entered m no_ocalls cx ordinal address) old new (Err status) = runs no_ocalls in
+    let same : steps_of (map made r.steps) ≡ r.steps = steps_of-made r.steps in
+    record {
+      steps = r.steps;
+      grown = r.grown;
+      loads = subst (λ steps. All IsEnclaveLoad steps) same (all_loads (steps_of (map made r.steps)) (refused_loads m no_ocalls cx ordinal address (map made r.steps) status r.after));
+    }

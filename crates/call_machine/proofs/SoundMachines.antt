@@ -1,12 +1,10 @@
 -- A machine that the engine runs is sound.
-use Rattle.std.proofs.Common.{ℕ, ◌≡◌, true, false, List, [], ◌∷◌, length, unwrap_or, option_map, Option, Some, None, All, sym, ◌∙◌, subst, ap}
+use Rattle.std.proofs.Common.{ℕ, ◌≡◌, List, [], ◌∷◌, length, unwrap_or, option_map, Option, Some, None, sym, ◌∙◌, subst, ap}
 use Rattle.std.specs.List.{AllZip}
-use Rattle.std.proofs.lemmas.List.Elements.{All-nil, All-weaker}
 use Rattle.edl_interface.specs.declared.Param.{Param}
 use Rattle.edl_interface.specs.declared.Function.{Function}
 use Rattle.edl_interface.specs.declared.Interface.{Interface}
 use Rattle.edl_interface.specs.Parameters.{marshalled}
-use Rattle.edl_interface.specs.Runnable.{IsRunnableFunction}
 use Rattle.body_vm.specs.declared.Action.{Action}
 use Rattle.body_vm.specs.declared.Action.TheVariants.{Temp, Ocall}
 use Rattle.body_vm.specs.declared.Body.{Body}
@@ -14,7 +12,7 @@ use Rattle.body_vm.specs.declared.Pass.{Pass}
 use Rattle.body_vm.specs.declared.Pass.TheVariants.{Value, Bytes}
 use Rattle.call_script.specs.Sound.{IsPassAt, IsSoundAction as IsSoundHere, AreSoundActions as AreSoundHere, temporary_count}
 use Rattle.call_machine.specs.declared.Machine.{Machine}
-use Rattle.call_machine.specs.Plain.{IsPlainFunction, IsPlainMachine}
+use Rattle.call_machine.specs.Plain.{IsPlainMachine}
 use Rattle.call_machine.specs.Sound.{FitPasses, IsSoundAction, AreSoundActions, IsSoundBody, IsSoundMachine}
 use Rattle.call_machine.proofs.BodyRange.{HasBody, body_at}
 
@@ -47,10 +45,7 @@ sound_body m ordinal plain = λ f found.
 
 pub plain_sound : (m : Machine) → IsPlainMachine m → IsSoundMachine m
 plain_sound m plain = record {
-  runnable = record {
-    ecalls = All-weaker IsPlainFunction (IsRunnableFunction true) (λ f h. h.runnable) m.interface.ecalls plain.interface.functions;
-    ocalls = subst (λ fs. All (IsRunnableFunction false) fs) (sym plain.interface.no_ocalls) (All-nil (IsRunnableFunction false));
-  };
-  stack = plain.script.settings.stack_fits;
+  runnable = plain.runnable;
+  stack = plain.script.stack_in_host;
   bodies = λ ordinal. sound_body m ordinal plain;
 }

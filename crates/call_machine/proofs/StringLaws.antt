@@ -191,33 +191,33 @@ take_whole (x ∷ xs) zero e = absurd (omega (arith, e))
 take_whole (x ∷ xs) (suc n) e = let h : length xs ≡ n = omega (arith, e) in ap (λ l. x ∷ l) (take_whole xs n h)
 
 -- the length of an argument that was read from its lists
-pub length_made : (here host : ℕ) (q p : Param) (a arg : CallArg) (mid new : PortState) (n : ℕ) → here ≡ host → p ≡ q → arg ≡ a → Makes (string_length here 0 q.class a) mid new n → Makes (string_length host 0 p.class arg) mid new n
-length_made here host q p a arg mid new n h e k made =
-    subst (λ x. Makes (string_length host 0 p.class x) mid new n) (sym k)
-    (subst (λ (x : Param). Makes (string_length host 0 x.class a) mid new n) (sym e)
-    (subst (λ x. Makes (string_length x 0 q.class a) mid new n) h made))
+pub length_made : (here host place : ℕ) (q p : Param) (a arg : CallArg) (mid new : PortState) (n : ℕ) → here ≡ host → p ≡ q → arg ≡ a → Makes (string_length here place q.class a) mid new n → Makes (string_length host place p.class arg) mid new n
+length_made here host place q p a arg mid new n h e k made =
+    subst (λ x. Makes (string_length host place p.class x) mid new n) (sym k)
+    (subst (λ (x : Param). Makes (string_length host place x.class a) mid new n) (sym e)
+    (subst (λ x. Makes (string_length x place q.class a) mid new n) h made))
 
-pub length_stopped : (here host : ℕ) (q p : Param) (a arg : CallArg) (mid new : PortState) → here ≡ host → p ≡ q → arg ≡ a → StopsFull (string_length here 0 q.class a) mid new → StopsFull (string_length host 0 p.class arg) mid new
-length_stopped here host q p a arg mid new h e k stopped =
-    subst (λ x. StopsFull (string_length host 0 p.class x) mid new) (sym k)
-    (subst (λ (x : Param). StopsFull (string_length host 0 x.class a) mid new) (sym e)
-    (subst (λ x. StopsFull (string_length x 0 q.class a) mid new) h stopped))
+pub length_stopped : (here host place : ℕ) (q p : Param) (a arg : CallArg) (mid new : PortState) → here ≡ host → p ≡ q → arg ≡ a → StopsFull (string_length here place q.class a) mid new → StopsFull (string_length host place p.class arg) mid new
+length_stopped here host place q p a arg mid new h e k stopped =
+    subst (λ x. StopsFull (string_length host place p.class x) mid new) (sym k)
+    (subst (λ (x : Param). StopsFull (string_length host place x.class a) mid new) (sym e)
+    (subst (λ x. StopsFull (string_length x place q.class a) mid new) h stopped))
 
-module _ (host : ℕ) (params : List Param) (args : List CallArg) where
+module _ (host place : ℕ) (params : List Param) (args : List CallArg) where
   abbrev all : Interaction (List ℕ)
-  all = string_lengths host 0 (zip params args)
+  all = string_lengths host place (zip params args)
 
   -- the lengths of the arguments from this one on, behind those that were found
   abbrev pub lengths_left : ℕ → List ℕ → Interaction (List ℕ)
-  lengths_left i found = and_then (string_lengths host 0 (zip (drop i params) (drop i args))) (λ rest. ret (take i found ++ rest))
+  lengths_left i found = and_then (string_lengths host place (zip (drop i params) (drop i args))) (λ rest. ret (take i found ++ rest))
 
-  pub lengths_begin : (found : List ℕ) (now : PortState) → Leads (string_lengths host 0 (zip params args)) now now (lengths_left 0 found)
-  lengths_begin found now = subst (λ t. Leads (string_lengths host 0 (zip params args)) now now t) (sym (and_then-ret (string_lengths host 0 (zip params args)))) (leads_nothing (string_lengths host 0 (zip params args)) now)
+  pub lengths_begin : (found : List ℕ) (now : PortState) → Leads (string_lengths host place (zip params args)) now now (lengths_left 0 found)
+  lengths_begin found now = subst (λ t. Leads (string_lengths host place (zip params args)) now now t) (sym (and_then-ret (string_lengths host place (zip params args)))) (leads_nothing (string_lengths host place (zip params args)) now)
 
-  module _ (i : ℕ) (found : List ℕ) (old mid : PortState) (so_far : Leads (string_lengths host 0 (zip params args)) old mid (lengths_left i found))
+  module _ (i : ℕ) (found : List ℕ) (old mid : PortState) (so_far : Leads (string_lengths host place (zip params args)) old mid (lengths_left i found))
       (p : Param) (arg : CallArg) (p_at : slice_get params i ≡ Some p) (arg_at : slice_get args i ≡ Some arg) where
     abbrev rest : Interaction (List ℕ)
-    rest = string_lengths host 0 (zip (drop (i + 1) params) (drop (i + 1) args))
+    rest = string_lengths host place (zip (drop (i + 1) params) (drop (i + 1) args))
 
     abbrev then_rest : ℕ → Interaction (List ℕ)
     then_rest n = map_value (λ lengths. n ∷ lengths) rest
@@ -225,36 +225,36 @@ module _ (host : ℕ) (params : List Param) (args : List CallArg) where
     abbrev then_found : List ℕ → Interaction (List ℕ)
     then_found more = ret (take i found ++ more)
 
-    left_is : lengths_left i found ≡ and_then (and_then (string_length host 0 p.class arg) then_rest) then_found
+    left_is : lengths_left i found ≡ and_then (and_then (string_length host place p.class arg) then_rest) then_found
     left_is =
-        ap (λ l. and_then (string_lengths host 0 (zip l (drop i args))) then_found) (drop_at params i p p_at)
-        ∙ ap (λ l. and_then (string_lengths host 0 (zip (p ∷ drop (i + 1) params) l)) then_found) (drop_at args i arg arg_at)
+        ap (λ l. and_then (string_lengths host place (zip l (drop i args))) then_found) (drop_at params i p p_at)
+        ∙ ap (λ l. and_then (string_lengths host place (zip (p ∷ drop (i + 1) params) l)) then_found) (drop_at args i arg arg_at)
 
     -- the log is full in this argument
-    pub lengths_full : (new : PortState) → StopsFull (string_length host 0 p.class arg) mid new → StopsFull (string_lengths host 0 (zip params args)) old new
+    pub lengths_full : (new : PortState) → StopsFull (string_length host place p.class arg) mid new → StopsFull (string_lengths host place (zip params args)) old new
     lengths_full new stopped =
-        full_on (string_lengths host 0 (zip params args)) (lengths_left i found) old mid new so_far
+        full_on (string_lengths host place (zip params args)) (lengths_left i found) old mid new so_far
         (subst (λ t. StopsFull t mid new) (sym left_is)
-        (full_first (and_then (string_length host 0 p.class arg) then_rest) then_found mid new (full_first (string_length host 0 p.class arg) then_rest mid new stopped)))
+        (full_first (and_then (string_length host place p.class arg) then_rest) then_found mid new (full_first (string_length host place p.class arg) then_rest mid new stopped)))
 
     -- one more argument
-    pub lengths_more : (n : ℕ) (new : PortState) → i < length found → Makes (string_length host 0 p.class arg) mid new n
-        → Leads (string_lengths host 0 (zip params args)) old new (lengths_left (i + 1) (slice_set found i n))
+    pub lengths_more : (n : ℕ) (new : PortState) → i < length found → Makes (string_length host place p.class arg) mid new n
+        → Leads (string_lengths host place (zip params args)) old new (lengths_left (i + 1) (slice_set found i n))
     lengths_more n new below made =
         let same : (more : List ℕ) → then_found (n ∷ more) ≡ ret (take (i + 1) (slice_set found i n) ++ more) = λ more.
         ap (λ l. ret l) (sym (append_assoc (take i found) (n ∷ []) more) ∙ ap (λ l. l ++ more) (sym (take_more_set found i n below))) in
-        leads_on (string_lengths host 0 (zip params args)) (lengths_left i found) (lengths_left (i + 1) (slice_set found i n)) old mid new so_far
+        leads_on (string_lengths host place (zip params args)) (lengths_left i found) (lengths_left (i + 1) (slice_set found i n)) old mid new so_far
         (subst (λ t. Leads t mid new (lengths_left (i + 1) (slice_set found i n))) (sym left_is)
-        (subst (λ t. Leads (and_then (and_then (string_length host 0 p.class arg) then_rest) then_found) mid new t)
+        (subst (λ t. Leads (and_then (and_then (string_length host place p.class arg) then_rest) then_found) mid new t)
         (and_then-assoc rest (λ lengths. ret (n ∷ lengths)) then_found ∙ ap (λ k. and_then rest k) (fun_ext same))
-        (leads_first (and_then (string_length host 0 p.class arg) then_rest) (then_rest n) then_found mid new
-        (leads_first (string_length host 0 p.class arg) (ret n) then_rest mid new made))))
+        (leads_first (and_then (string_length host place p.class arg) then_rest) (then_rest n) then_found mid new
+        (leads_first (string_length host place p.class arg) (ret n) then_rest mid new made))))
 
   -- all arguments are done
-  pub lengths_end : (i : ℕ) (found : List ℕ) (old new : PortState) → Leads (string_lengths host 0 (zip params args)) old new (lengths_left i found)
-      → length params ≤ i → length args ≤ i → length found ≡ i → Makes (string_lengths host 0 (zip params args)) old new found
+  pub lengths_end : (i : ℕ) (found : List ℕ) (old new : PortState) → Leads (string_lengths host place (zip params args)) old new (lengths_left i found)
+      → length params ≤ i → length args ≤ i → length found ≡ i → Makes (string_lengths host place (zip params args)) old new found
   lengths_end i found old new so_far h k e =
-      subst (λ t. Leads (string_lengths host 0 (zip params args)) old new t)
-      (ap (λ l. and_then (string_lengths host 0 (zip l (drop i args))) (λ rest. ret (take i found ++ rest))) (drop_past params i h)
+      subst (λ t. Leads (string_lengths host place (zip params args)) old new t)
+      (ap (λ l. and_then (string_lengths host place (zip l (drop i args))) (λ rest. ret (take i found ++ rest))) (drop_past params i h)
       ∙ ap (λ l. ret l) (append-nil (take i found) ∙ take_whole found i e))
       so_far

@@ -18,7 +18,6 @@ use Rattle.ocall_frames.specs.Stack.{frame_below}
 use Rattle.switchless.specs.declared.Pool.{Pool}
 use Rattle.switchless.specs.Slots.{offered_word}
 use Rattle.switchless.specs.Caller.{caller}
-use Rattle.call_script.specs.declared.Place.TheVariants.{At as at_address, InFrame}
 use Rattle.call_script.specs.declared.CallArg.{CallArg}
 use Rattle.call_script.specs.declared.CallArg.TheVariants.{At, Null, Number, Bytes}
 use Rattle.call_script.specs.declared.Settings.{Settings}
@@ -26,6 +25,7 @@ use Rattle.call_script.specs.Words.{ecall_slots}
 use Rattle.call_report.specs.declared.Way.TheVariants.{Ordinary, Fallback, Taken}
 use Rattle.call_report.specs.declared.CallRecord.{CallRecord}
 use Rattle.call_machine.specs.declared.Machine.{Machine}
+use Rattle.call_machine.specs.Acts.{place_address}
 use Rattle.call_machine.specs.Context.{Context}
 use Rattle.bridge_program.specs.Entry.{is_empty}
 use Rattle.call_machine.specs.Result.{Outcome, is_success}
@@ -49,8 +49,7 @@ IsUnitSeen host unit address old new false =
 
 -- the address of a pointer's argument, where frames of the handler begin at this one
 abbrev pub argument_address : ℕ → CallArg → ℕ
-argument_address frame (At (at_address address)) = address
-argument_address frame (At (InFrame offset)) = frame + offset
+argument_address frame (At place) = place_address frame place
 argument_address frame _ = 0
 
 -- the length of a string argument whose pointer is not null, found by loads, and 0 for any other

@@ -124,10 +124,14 @@ is_temp _ = false
 abbrev pub actions_of : Machine → ℕ → List Action
 actions_of m ordinal = unwrap_or (option_map (λ b. b.actions) (slice_get m.script.bodies ordinal)) []
 
--- the body of a function over its parameters' values and copies; a temporary block is null until it is made
+-- the body of an ECALL over the values and the copies of its parameters; a temporary block is null until it is made
+abbrev pub body_over : Machine → ℕ → List ℕ → Copies → Execution
+body_over m ordinal values copies =
+    execution (actions_of m ordinal) values (copies.blocks ++ replicate (count_by is_temp (actions_of m ordinal)) None) copies.room
+
+-- the body of a function, by the fields of the frame's copy
 abbrev pub body_of : Machine → ℕ → Function → List ℕ → Copies → Execution
-body_of m ordinal f frame copies =
-    execution (actions_of m ordinal) (map (value_in frame) f.params) (copies.blocks ++ replicate (count_by is_temp (actions_of m ordinal)) None) copies.room
+body_of m ordinal f frame copies = body_over m ordinal (map (value_in frame) f.params) copies
 
 -- an answered ECALL: where its answer begins, and the records of the calls in it
 pub record Answered : Type 0 where

@@ -22,60 +22,36 @@ use Rattle.enclave_memory.specs.Memory.{Memory, IsBlock, IsPush, room_of}
 use Rattle.body_vm.specs.Places.{blocks_in, IsAbsent, IsHeld}
 use Rattle.call_copy.specs.Copies.{copy_in, copy_out}
 use Rattle.call_report.specs.declared.CallRecord.{CallRecord}
+use Rattle.call_report.specs.RecordList.{RecordList, with_records}
 use Rattle.call_machine.specs.declared.Machine.{Machine}
 use Rattle.call_machine.specs.Context.{Context}
 use Rattle.call_machine.specs.declared.entry.Entered.{Entered}
 use Rattle.call_machine.specs.declared.entry.Entered.TheVariants.{Answered as answered, Refused}
-use Rattle.call_machine.specs.Ecall.{Answered, Ocalls, shape_of, copies_in, entered, loaded_entry}
+use Rattle.call_machine.specs.Ecall.{Answered, shape_of, copies_in, entered}
+use Rattle.call_machine.specs.Tcs.{TcsState, context_of, moment}
+use Rattle.call_machine.specs.Thread.{entry_ocalls}
 
--- an answered entry whose answer begins at a place of the log, and in which no call was made
-abbrev pub answered_at : ℕ → Answered
-answered_at turn = record { turn = turn; records = [] }
+-- an entry's answer by its place and the records of the calls in it, or its refusal
+abbrev pub ends_as : Entered → List CallRecord → Result Answered Status
+ends_as (answered turn) made = Ok (record { turn = turn; records = made })
+ends_as (Refused status) made = Err status
 
--- an entry's answer by its place, or its refusal
-abbrev pub ends_as : Entered → Result Answered Status
-ends_as (answered turn) = Ok (answered_at turn)
-ends_as (Refused status) = Err status
+-- the entry was refused
+abbrev pub IsRefusal : Entered → Type 0
+IsRefusal (answered turn) = ⊥
+IsRefusal (Refused status) = Unit {0}
 
 -- the record of an entry that began so, once it has ended
 abbrev pub ended_record : CallRecord → ℕ → ℕ → Entered → CallRecord
 ended_record begun first last (answered turn) = record begun { status = SUCCESS; first = first; turn = turn; last = last }
 ended_record begun first last (Refused status) = record begun { status = status; first = first; turn = last; last = last }
 
--- whatever OCALLs do, the port has made an entry that ended so
-abbrev pub EntryRuns : Machine → Context → ℕ → ℕ → PortState → PortState → Entered → Type 0
-EntryRuns m cx ordinal address old new how =
-    (ocalls : Ocalls) (records waits : ℕ) → Runs (entered m ocalls cx ordinal address) (progress old records waits) (progress new records waits) (ends_as how)
-
--- whatever OCALLs do, the port's log became full in an entry
-abbrev pub EntryStops : Machine → Context → ℕ → ℕ → PortState → PortState → Type 0
-EntryStops m cx ordinal address old new =
-    (ocalls : Ocalls) (records waits : ℕ) → StopsAt Steps (entered m ocalls cx ordinal address) (progress old records waits) new
-
--- whatever OCALLs do, the port has made an entry that ended so, once its frame was loaded
-abbrev pub LoadedRuns : Machine → ℕ → ℕ → ℕ → Function → List ℕ → PortState → PortState → Entered → Type 0
-LoadedRuns m room ordinal address f frame old new how =
-    (ocalls : Ocalls) (cx : Context) (records waits : ℕ) → cx.room ≡ room
-    → Runs (loaded_entry m ocalls cx ordinal address f frame) (progress old records waits) (progress new records waits) (ends_as how)
-
--- whatever OCALLs do, the port's log became full in an entry, once its frame was loaded
-abbrev pub LoadedStops : Machine → ℕ → ℕ → ℕ → Function → List ℕ → PortState → PortState → Type 0
-LoadedStops m room ordinal address f frame old new =
-    (ocalls : Ocalls) (cx : Context) (records waits : ℕ) → cx.room ≡ room
-    → StopsAt Steps (loaded_entry m ocalls cx ordinal address f frame) (progress old records waits) new
-
--- the port has loaded the frame, and made an entry that ended so
-abbrev pub AdmittedRuns : Machine → ℕ → ℕ → ℕ → Function → PortState → PortState → Entered → Type 0
-AdmittedRuns m room ordinal address f old new how =
-    (frame : List ℕ) × (mid : PortState) × Makes (loads Enclave address f.frame_size) old mid frame
-    × LoadedRuns m room ordinal address f frame mid new how
-
--- the port's log became full as the frame was loaded, or later
-abbrev pub AdmittedStops : Machine → ℕ → ℕ → ℕ → Function → PortState → PortState → Type 0
-AdmittedStops m room ordinal address f old new =
-    StopsFull (loads Enclave address f.frame_size) old new
-    ⊎ ((frame : List ℕ) × (mid : PortState) × Makes (loads Enclave address f.frame_size) old mid frame
-    × LoadedStops m room ordinal address f frame mid new)
+-- an entry was made that ended so, and the records of its calls are at the end of the list
+abbrev pub EntryRuns : Machine → ℕ → ℕ → PortState → PortState → RecordList → RecordList → TcsState → TcsState → Entered → Type 0
+EntryRuns m ordinal address old new before after first last how =
+    (made : List CallRecord)
+    × Runs (entered m (entry_ocalls m (context_of first)) (context_of first) ordinal address) (moment old before first) (moment new after last) (ends_as how made)
+    × (after ≡ with_records before made) × (last ≡ record first { waits = last.waits })
 
 -- a step that loads a word, by the enclave
 abbrev pub IsEnclaveLoad : Step → Type 0

@@ -1,13 +1,16 @@
 pub mod Acts
+pub mod Admitted
 pub mod Bodies
 pub mod Calls
 pub mod Context
 pub mod Ecall
 pub mod Entry
+pub mod FramedCalls
+pub mod HostActs
 pub mod Made
 pub mod Ocall
+pub mod OcallPhases
 pub mod Plain
-pub mod PlainScript
 pub mod Refusal
 pub mod Reported
 pub mod Result

@@ -1,6 +1,6 @@
--- What the calls and the acts of a host thread have made.
+-- What calls and acts of the host have made.
 use Rattle.std.specs.Prelude.{◌≡◌, List}
-use Rattle.sgx_base.specs.declared.TheConstants.Status.{SUCCESS}
+use Rattle.sgx_base.specs.declared.Status.{Status}
 use Rattle.word_port.specs.Port.{PortState}
 use Rattle.word_port.specs.Interaction.{Interaction}
 use Rattle.word_port.specs.Runs.{Runs}
@@ -15,9 +15,8 @@ MakesCalls calls old new before after first last =
     (made : List CallRecord) × Runs calls (moment old before first) (moment new after last) made
     × (after ≡ with_records before made) × (last ≡ record first { waits = last.waits })
 
--- acts were done that set no reply's status, and the records of their calls are at the end of the list
-abbrev pub MakesActs : Interaction Outcome → PortState → PortState → RecordList → RecordList → TcsState → TcsState → Type 0
-MakesActs acts old new before after first last =
-    (made : List CallRecord)
-    × Runs acts (moment old before first) (moment new after last) (record { status = SUCCESS; records = made })
-    × (after ≡ with_records before made) × (last ≡ record first { waits = last.waits })
+-- the same of what gives a status too
+abbrev pub MakesOutcome : Interaction Outcome → PortState → PortState → RecordList → RecordList → TcsState → TcsState → Status → Type 0
+MakesOutcome acts old new before after first last status =
+    (out : Outcome) × (out.status ≡ status) × Runs acts (moment old before first) (moment new after last) out
+    × (after ≡ with_records before out.records) × (last ≡ record first { waits = last.waits })

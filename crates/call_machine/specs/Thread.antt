@@ -45,6 +45,19 @@ ecalls_to m (suc depth) = ecall_by m (ocall_by m (handlers_by m (ecalls_to m dep
 abbrev pub ecalls : Machine → Context → Ecalls
 ecalls m cx = ecalls_to m (16 - length cx.stack)
 
+-- the OCALLs of the body of an ECALL where so many more entries fit the call stack
+abbrev pub ocalls_to : Machine → ℕ → Ocalls
+ocalls_to m zero = no_ocalls
+ocalls_to m (suc depth) = ocall_by m (handlers_by m (ecalls_to m depth))
+
+-- those of an ECALL that is entered in a context
+abbrev pub entry_ocalls : Machine → Context → Ocalls
+entry_ocalls m cx = ocalls_to m (16 - length cx.stack)
+
+-- those of a body that runs in a context
+abbrev pub body_ocalls : Machine → Context → Ocalls
+body_ocalls m cx = ocall_by m (handlers_by m (ecalls m cx))
+
 -- an ECALL with its record
 unfoldable pub ecall : Machine → Context → ℕ → ℕ → Way → Interaction Outcome
 ecall m cx ordinal address way = with_record (ecalls m cx cx ordinal address way)

@@ -1,38 +1,50 @@
-//! What a host thread does: its calls, entries at addresses of its own, pokes and peeks, and repeats of these.
+//! What the host does beside calls: its pokes and peeks, and the return of a handler; and the acts of a host thread.
 
-ghost use Rattle.std.specs.Prelude.{ℕ, List, [], ◌∷◌, ◌≡◌, ◌+◌, false, true, MatchOption, IfErr, OnOk};
+ghost use Rattle.std.specs.Prelude.{[], ◌∷◌, ◌≡◌, ◌≤◌, ◌+◌, false, true, MatchOption, IfErr, OnOk, IsTrue};
+ghost use Rattle.sgx_base.specs.Bytes.{low_bytes};
 ghost use Rattle.sgx_base.specs.Ranges.{is_mapped};
-ghost use Rattle.sgx_base.specs.declared.TheConstants.Status.{SUCCESS};
+ghost use Rattle.word_port.specs.Accesses.{stores};
 ghost use Rattle.word_port.specs.Runs.{Makes, Runs, StopsAt};
 ghost use Rattle.word_port.specs.declared.Side.TheVariants.{Host};
 ghost use Rattle.call_copy.specs.Stops.{IsCutShort};
 ghost use Rattle.call_report.specs.RecordList.{with_records};
-ghost use Rattle.call_machine.specs.Acts.{place_address, mapped_stores, mapped_loads, peek as peek_of, act_of, acts_from, repeat as repeat_of};
-ghost use Rattle.call_machine.specs.Calls.{raw_call};
+ghost use Rattle.call_machine.specs.Acts.{mapped_stores, mapped_loads, peek as peek_of};
 ghost use Rattle.call_machine.specs.Context.{depth_of};
-ghost use Rattle.call_machine.specs.Made.{MakesCalls, MakesActs};
+ghost use Rattle.call_machine.specs.HostActs.{AreThreadActs};
+ghost use Rattle.call_machine.specs.Made.{MakesCalls};
 ghost use Rattle.call_machine.specs.Plain.{IsPlainMachine};
-ghost use Rattle.call_machine.specs.PlainScript.{IsThreadAct, AreThreadActs};
 ghost use Rattle.call_machine.specs.Result.{Outcome};
 ghost use Rattle.call_machine.specs.Tcs.{context_of, moment, HasStackInHost, IsPortOf};
-ghost use Rattle.call_machine.specs.Thread.{ecalls, thread, thread_actor};
+ghost use Rattle.call_machine.specs.Thread.{thread};
 
-use crate::entry::ecall;
-use crate::host::call;
+use crate::calls::do_acts;
 use crate::{Machine, Tcs};
 use call_copy::{load_bytes, put_range};
 use call_report::{CallKind, CallRecord, Records, Way};
 use call_script::{HostAct, Place};
-use sgx_base::{Status, mapped};
+use sgx_base::{Status, little_endian_bytes, mapped};
 use word_port::{RunFull, Side, WordPort};
 
-/// The address of a place, where a place in a frame is counted from 0.
-fn place_at(place: Place) -> u64
-    ensures { result ≡ place_address 0 place }
-{
-    match place {
-        Place::At(address) => address,
-        Place::InFrame(offset) => u64::from(offset),
+/// Where the host acts: the frame of a handler, 0 outside handlers, and the size of its return.
+#[derive(Clone, Copy)]
+pub(crate) struct HostPlace {
+    pub frame: u64,
+    pub return_size: u32,
+}
+
+impl HostPlace {
+    ghost use Rattle.std.specs.Prelude.{◌≡◌, ◌<◌, ◌^◌};
+    ghost use Rattle.call_machine.specs.Acts.{place_address};
+
+    /// The address of a place, which may be one in the handler's frame.
+    pub(crate) fn address_of(self, place: Place) -> u64
+        requires { place_address self.frame place < 2 ^ 64 }
+        ensures { result ≡ place_address self.frame place }
+    {
+        match place {
+            Place::At(address) => address,
+            Place::InFrame(offset) => self.frame + u64::from(offset),
+        }
     }
 }
 
@@ -69,7 +81,12 @@ fn poke_byte<P: WordPort>(
 }
 
 /// Writes bytes from an address on, and passes over each that falls outside host memory.
-fn poke<P: WordPort>(port: &mut P, side: Side, at: u64, bytes: &[u8]) -> Result<(), RunFull>
+pub(crate) fn poke<P: WordPort>(
+    port: &mut P,
+    side: Side,
+    at: u64,
+    bytes: &[u8],
+) -> Result<(), RunFull>
     ensures ok { OnOk result (Makes (mapped_stores side (P.state port.old).host at bytes.now)
         (P.state port.old) (P.state port.new) tt) }
     ensures full { IfErr result (IsCutShort (mapped_stores side (P.state port.old).host at bytes.now)
@@ -108,7 +125,7 @@ fn peek_bytes<P: WordPort>(port: &mut P, side: Side, at: u64, length: u32) -> Re
 }
 
 /// Loads so many bytes from an address on, with a record.
-fn peek<P: WordPort>(
+pub(crate) fn peek<P: WordPort>(
     tcs: &Tcs,
     port: &mut P,
     at: u64,
@@ -142,118 +159,26 @@ fn peek<P: WordPort>(
     Ok(())
 }
 
-/// An entry of this ordinal with a frame at this address, whatever they are.
-fn raw<P: WordPort>(
-    machine: &Machine,
-    tcs: &mut Tcs,
+/// Stores the return of the handler at a place, in as many bytes as it has.
+pub(crate) fn put_return<P: WordPort>(
     port: &mut P,
-    ordinal: u32,
-    at: u64,
-    records: &mut Records,
+    place: HostPlace,
+    value: u64,
 ) -> Result<(), RunFull>
-    requires machine { IsPlainMachine machine.now }
-    requires stack { tcs.old.stack ≡ [] }
-    requires port { IsPortOf machine.now (P.state port.old) }
-    ensures ok { OnOk result (MakesCalls
-        (raw_call (ecalls machine.now (context_of tcs.old)) (context_of tcs.old) ordinal at)
-        (P.state port.old) (P.state port.new) records.old records.new tcs.old tcs.new) }
-    ensures full { IfErr result (λ full. StopsAt full
-        (raw_call (ecalls machine.now (context_of tcs.old)) (context_of tcs.old) ordinal at)
-        (moment (P.state port.old) records.old tcs.old) (P.state port.new)) }
+    requires few { place.return_size ≤ 8 }
+    requires mapped { IsTrue (is_mapped (P.state port.old).host place.frame place.return_size) }
+    ensures ok { OnOk result (Makes (stores Host place.frame (low_bytes place.return_size value))
+        (P.state port.old) (P.state port.new) tt) }
+    ensures full { IfErr result (IsCutShort (stores Host place.frame (low_bytes place.return_size value))
+        (P.state port.old) (P.state port.new)) }
 {
-    ecall(machine, tcs, port, ordinal, at, Way::Ordinary, records)?;
-    Ok(())
-}
-
-/// Does the acts so many times.
-#[cycle(acts)]
-fn repeat<P: WordPort>(
-    machine: &Machine,
-    tcs: &mut Tcs,
-    port: &mut P,
-    times: u32,
-    acts: &[HostAct],
-    records: &mut Records,
-) -> Result<(), RunFull>
-    requires machine { IsPlainMachine machine.now }
-    requires stack { tcs.old.stack ≡ [] }
-    requires stack_in { HasStackInHost machine.now tcs.old }
-    requires port { IsPortOf machine.now (P.state port.old) }
-    requires sound { AreThreadActs machine.now.interface machine.now.script.settings.host acts.now }
-    ensures ok { OnOk result (MakesActs
-        (repeat_of times (acts_from (thread_actor machine.now (context_of tcs.old)) acts.now) SUCCESS)
-        (P.state port.old) (P.state port.new) records.old records.new tcs.old tcs.new) }
-    ensures full { IfErr result (λ full. StopsAt full
-        (repeat_of times (acts_from (thread_actor machine.now (context_of tcs.old)) acts.now) SUCCESS)
-        (moment (P.state port.old) records.old tcs.old) (P.state port.new)) }
-{
-    for turn in 0..times {
-        do_acts(machine, tcs, port, acts, records)?;
-    }
-    Ok(())
-}
-
-/// Does one act.
-#[tactic(auto, using(crate::proofs::ThreadActs::call_sound, crate::proofs::ThreadActs::no_return, crate::proofs::ThreadActs::no_reply))]
-#[cycle(acts)]
-fn do_act<P: WordPort>(
-    machine: &Machine,
-    tcs: &mut Tcs,
-    port: &mut P,
-    act: &HostAct,
-    records: &mut Records,
-) -> Result<(), RunFull>
-    requires machine { IsPlainMachine machine.now }
-    requires stack { tcs.old.stack ≡ [] }
-    requires stack_in { HasStackInHost machine.now tcs.old }
-    requires port { IsPortOf machine.now (P.state port.old) }
-    requires sound { IsThreadAct machine.now.interface machine.now.script.settings.host act.now }
-    ensures ok { OnOk result (MakesActs
-        (act_of (thread_actor machine.now (context_of tcs.old)) act.now SUCCESS)
-        (P.state port.old) (P.state port.new) records.old records.new tcs.old tcs.new) }
-    ensures full { IfErr result (λ full. StopsAt full
-        (act_of (thread_actor machine.now (context_of tcs.old)) act.now SUCCESS)
-        (moment (P.state port.old) records.old tcs.old) (P.state port.new)) }
-{
-    match act {
-        HostAct::Call { ordinal, args } => {
-            call(machine, tcs, port, *ordinal, args.as_slice(), records)
-        }
-        HostAct::Raw { ordinal, at } => raw(machine, tcs, port, *ordinal, *at, records),
-        HostAct::Poke { at, bytes } => poke(port, Side::Host, place_at(*at), bytes.as_slice()),
-        HostAct::Peek { at, length } => peek(tcs, port, place_at(*at), *length, records),
-        HostAct::Repeat { times, acts } => {
-            repeat(machine, tcs, port, *times, acts.as_slice(), records)
-        }
-        HostAct::Return(_) | HostAct::Reply(_) => unreachable!(),
-    }
-}
-
-/// Does each act, in order.
-#[cycle(acts)]
-fn do_acts<P: WordPort>(
-    machine: &Machine,
-    tcs: &mut Tcs,
-    port: &mut P,
-    acts: &[HostAct],
-    records: &mut Records,
-) -> Result<(), RunFull>
-    requires machine { IsPlainMachine machine.now }
-    requires stack { tcs.old.stack ≡ [] }
-    requires stack_in { HasStackInHost machine.now tcs.old }
-    requires port { IsPortOf machine.now (P.state port.old) }
-    requires sound { AreThreadActs machine.now.interface machine.now.script.settings.host acts.now }
-    ensures ok { OnOk result (MakesActs
-        (acts_from (thread_actor machine.now (context_of tcs.old)) acts.now SUCCESS)
-        (P.state port.old) (P.state port.new) records.old records.new tcs.old tcs.new) }
-    ensures full { IfErr result (λ full. StopsAt full
-        (acts_from (thread_actor machine.now (context_of tcs.old)) acts.now SUCCESS)
-        (moment (P.state port.old) records.old tcs.old) (P.state port.new)) }
-{
-    for act in acts {
-        do_act(machine, tcs, port, act, records)?;
-    }
-    Ok(())
+    let bytes = little_endian_bytes(value);
+    put_range(
+        port,
+        Side::Host,
+        place.frame,
+        &bytes[..place.return_size as usize],
+    )
 }
 
 /// What a host thread does for its acts, in order, with the records of its calls and peeks.
@@ -278,5 +203,10 @@ pub fn run_thread<P: WordPort>(
     ensures full { IfErr result (λ full. StopsAt full (thread machine.now (context_of tcs.old) acts.now)
         (moment (P.state port.old) records.old tcs.old) (P.state port.new)) }
 {
-    do_acts(machine, tcs, port, acts, records)
+    let place = HostPlace {
+        frame: 0,
+        return_size: 0,
+    };
+    do_acts(machine, tcs, port, place, acts, Status::SUCCESS, records)?;
+    Ok(())
 }

@@ -2,12 +2,15 @@
 #![tactic(auto)]
 
 mod acts;
+mod admission;
 mod arguments;
 mod bodies;
+mod calls;
 mod entry;
 mod fields;
 mod host;
 mod marshalling;
+mod ocalls;
 mod report_laws;
 mod run;
 mod strings;
@@ -15,8 +18,8 @@ mod tcs;
 
 pub use acts::run_thread;
 use call_script::Script;
+pub use calls::{ecall, ocall};
 use edl_interface::Interface;
-pub use entry::ecall;
 pub use fields::{check_fields, check_frame};
 pub use report_laws::one_report_law;
 pub use run::{RECORD_LIMIT, RunFault, STEP_LIMIT, first_acts, first_port, first_tcs, run_machine};

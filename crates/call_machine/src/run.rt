@@ -1,18 +1,17 @@
 //! A machine run by one thread, and its report.
 
-ghost use Rattle.std.specs.Prelude.{◌≡◌, ◌≤◌, ◌+◌, ◌/◌, [], IfOk, IfErr};
-ghost use Rattle.sgx_base.specs.Ranges.{host_start};
-ghost use Rattle.call_machine.specs.PlainScript.{AreThreadActs, ArePlainSettings};
+ghost use Rattle.std.specs.Prelude.{◌≡◌, ◌/◌, [], IfOk, IfErr};
+ghost use Rattle.call_machine.specs.HostActs.{AreThreadActs};
 ghost use Rattle.call_machine.specs.Plain.{IsPlainMachine};
 ghost use Rattle.call_machine.specs.Reported.{IsReportOf, acts_at};
 ghost use Rattle.call_machine.specs.Run.{IsRunFault};
-ghost use Rattle.call_machine.specs.Tcs.{context_of};
+ghost use Rattle.call_machine.specs.Tcs.{context_of, HasStackInHost};
 ghost use Rattle.call_machine.specs.Context.{first_context};
 ghost use Rattle.word_port.specs.Plain.{opened};
 
 use crate::{Machine, Tcs, run_thread};
 use call_report::{Records, report};
-use call_script::{HostAct, Settings};
+use call_script::HostAct;
 use sgx_base::HOST_START;
 use std::alloc::{AllocError, Global};
 use word_port::{PlainWords, RunFull, WordPort};
@@ -43,7 +42,6 @@ impl From<AllocError> for RunFault {
 }
 
 /// What thread 0 does.
-#[tactic(auto, using(crate::proofs::ThreadActs::thread_acts))]
 pub fn first_acts(machine: &Machine) -> &[HostAct]
     requires { IsPlainMachine machine.now }
     ensures acts { result.now ≡ acts_at machine.now 0 }
@@ -53,13 +51,14 @@ pub fn first_acts(machine: &Machine) -> &[HostAct]
 }
 
 /// The thread control structure with which thread 0 begins.
-pub fn first_tcs(alloc: Global, settings: Settings) -> Result<Tcs, AllocError>
-    requires { ArePlainSettings settings }
-    ensures context { IfOk result (λ tcs. context_of tcs ≡ first_context settings 0) }
+pub fn first_tcs(alloc: Global, machine: &Machine) -> Result<Tcs, AllocError>
+    requires { IsPlainMachine machine.now }
+    ensures context { IfOk result (λ tcs. context_of tcs ≡ first_context machine.now.script.settings 0) }
     ensures stack { IfOk result (λ tcs. tcs.stack ≡ []) }
-    ensures within { IfOk result (λ tcs. (host_start ≤ tcs.base) × (tcs.top ≤ host_start + settings.host)) }
+    ensures within { IfOk result (HasStackInHost machine.now) }
     ensures waits { IfOk result (λ tcs. tcs.waits ≡ STEP_LIMIT / 4) }
 {
+    let settings = machine.script.settings;
     let top = HOST_START + u64::from(settings.host);
     let base = top - u64::from(settings.stack);
     Tcs::new(alloc, settings.arena, base, top, STEP_LIMIT / 4)
@@ -88,7 +87,7 @@ pub fn run_machine(alloc: Global, machine: &Machine) -> Result<Vec<u8>, RunFault
     ensures full { IfErr result (λ fault. IsRunFault machine.now fault) }
 {
     let mut port = first_port(alloc, machine, STEP_LIMIT)?;
-    let mut tcs = first_tcs(alloc, machine.script.settings)?;
+    let mut tcs = first_tcs(alloc, machine)?;
     let mut records = Records::new(alloc, RECORD_LIMIT)?;
     let ran = run_thread(
         machine,

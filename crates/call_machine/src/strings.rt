@@ -1,6 +1,6 @@
 //! The lengths of the strings that the host passes.
 
-ghost use Rattle.std.specs.Prelude.{◌≡◌, ◌≤◌, length, zip, All, IfOk, IfErr, OnOk, true};
+ghost use Rattle.std.specs.Prelude.{◌≡◌, ◌≤◌, ◌<◌, ◌^◌, length, zip, All, IfOk, IfErr, OnOk, true};
 ghost use Rattle.sgx_base.specs.Ranges.{is_mapped};
 ghost use Rattle.sgx_base.specs.Texts.{is_zero_unit};
 ghost use Rattle.word_port.specs.Accesses.{loads};
@@ -9,9 +9,10 @@ ghost use Rattle.word_port.specs.declared.Side.TheVariants.{Host};
 ghost use Rattle.word_port.specs.declared.RunFull.TheVariants.{Steps};
 ghost use Rattle.call_copy.specs.Stops.{IsCutShort};
 ghost use Rattle.edl_interface.specs.Runnable.{IsPassed};
-ghost use Rattle.call_machine.specs.Calls.{IsUnitSeen, string_loads, string_length as string_length_of, string_lengths as string_lengths_of};
-ghost use Rattle.call_machine.specs.PlainScript.{AreArguments};
+ghost use Rattle.call_machine.specs.Calls.{argument_address, IsUnitSeen, string_loads, string_length as string_length_of, string_lengths as string_lengths_of};
+ghost use Rattle.call_machine.specs.FramedCalls.{AreArguments};
 
+use crate::acts::HostPlace;
 use crate::arguments::address_of;
 use call_copy::load_bytes;
 use call_script::CallArg;
@@ -63,14 +64,20 @@ fn string_length<P: WordPort>(port: &mut P, at: u64, unit: u32) -> Result<u64, R
 }
 
 /// The length of an argument that is a string and not null, and 0 of any other.
-fn argument_length<P: WordPort>(port: &mut P, class: &Class, arg: &CallArg) -> Result<u64, RunFull>
-    requires { IsPassed class.now }
-    ensures ok { IfOk result (Makes (string_length_of (P.state port.old).host 0 class.now arg.now)
+fn argument_length<P: WordPort>(
+    port: &mut P,
+    place: HostPlace,
+    class: &Class,
+    arg: &CallArg,
+) -> Result<u64, RunFull>
+    requires passed { IsPassed class.now }
+    requires address { argument_address place.frame arg.now < 2 ^ 64 }
+    ensures ok { IfOk result (Makes (string_length_of (P.state port.old).host place.frame class.now arg.now)
         (P.state port.old) (P.state port.new)) }
-    ensures full { IfErr result (IsCutShort (string_length_of (P.state port.old).host 0 class.now arg.now)
+    ensures full { IfErr result (IsCutShort (string_length_of (P.state port.old).host place.frame class.now arg.now)
         (P.state port.old) (P.state port.new)) }
 {
-    let address = address_of(arg);
+    let address = address_of(place, arg);
     if class.is_text() && address != 0 {
         string_length(port, address, class.unit())
     } else {
@@ -81,23 +88,24 @@ fn argument_length<P: WordPort>(port: &mut P, class: &Class, arg: &CallArg) -> R
 /// Finds the length of each argument, in order.
 pub(crate) fn string_lengths<P: WordPort>(
     port: &mut P,
+    place: HostPlace,
     function: &Function,
     args: &[CallArg],
     lengths: &mut [u64],
 ) -> Result<(), RunFull>
     requires classes { All (λ p. IsPassed p.class) function.now.params }
-    requires args { AreArguments function.now.params args.now }
+    requires args { AreArguments place.frame function.now.params args.now }
     requires room { length lengths.old ≡ length args.now }
     ensures ok { OnOk result
-        (Makes (string_lengths_of (P.state port.old).host 0 (zip function.now.params args.now))
+        (Makes (string_lengths_of (P.state port.old).host place.frame (zip function.now.params args.now))
         (P.state port.old) (P.state port.new) lengths.new) }
     ensures full { IfErr result
-        (IsCutShort (string_lengths_of (P.state port.old).host 0 (zip function.now.params args.now))
+        (IsCutShort (string_lengths_of (P.state port.old).host place.frame (zip function.now.params args.now))
         (P.state port.old) (P.state port.new)) }
 {
     let params = function.params.as_slice();
     for i in 0..args.len() {
-        lengths[i] = argument_length(port, &params[i].class, &args[i])?;
+        lengths[i] = argument_length(port, place, &params[i].class, &args[i])?;
     }
     Ok(())
 }

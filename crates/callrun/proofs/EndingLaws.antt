@@ -12,6 +12,7 @@ use Rattle.call_machine.specs.declared.Machine.{Machine}
 use Rattle.call_engine.specs.declared.faults.PrepareFault.{PrepareFault}
 use Rattle.call_engine.specs.declared.faults.PrepareFault.TheVariants.{Edl as of_edl, Script as of_script, NotFound}
 use Rattle.call_engine.specs.Prepared.{FilesGive, Prepares}
+use Rattle.run_laws.proofs.WholeOrCut.{whole_or_cut}
 use Rattle.callrun.specs.declared.Ending.{Ending}
 use Rattle.callrun.specs.declared.Ending.TheVariants.{Usage, Edl, Script, Unread, Missing, Done, Cut}
 use Rattle.command_line.specs.SearchPath.{directories}
@@ -19,7 +20,7 @@ use Rattle.callrun.specs.Endings.{Names, Task, Nothing, named, task_of, sample_n
 use Rattle.callrun.specs.Samples.{texts, sample_files}
 use Rattle.callrun.specs.Told.{Telling, report, summary}
 use Rattle.sample_script.specs.Sample.{sample}
-use Rattle.callrun.specs.Answers.{Answers, done, usage, edl_fault, script_fault, unread, refused, out_of_memory, missing, full, RunsThrough, IsRunnable, by_files, by_sample, NothingFailed}
+use Rattle.callrun.specs.Answers.{Answers, done, usage, edl_fault, script_fault, unread, refused, out_of_memory, missing, full, RunsThrough, IsRunnable, by_files, by_sample, IsTooLong, IsOverLimit, long_files, long_sample, NothingFailed}
 
 -- ---- the answer where an ending's text was written, or a part of it
 
@@ -96,6 +97,51 @@ complete words before after old new status (refused part failed) r n = absurd (n
 complete words before after old new status (out_of_memory part) r n = inl refl
 complete words before after old new status (missing name e w) r n = inr (all_done words before after old new (Missing name) r n e)
 complete words before after old new status (full limit e w) r n = inr (all_done words before after old new (Cut limit) r n e)
+
+-- ---- where a limit cuts the run
+
+module _ (store : Store) (n : Names) (r : IsTooLong store n) (before after : FilesState) (told : before.contents ≡ Some store) where
+  given : (answer : Result Machine PrepareFault) → FilesGive false before n.paths n.edl n.script answer → Prepares false store n.paths n.edl n.script answer
+  given answer gives = subst (λ (contents : Option Store). IfSome contents (λ s. Prepares false s n.paths n.edl n.script answer)) told gives
+
+  never : (fault : PrepareFault) → FilesGive false before n.paths n.edl n.script (Err fault) → ⊥
+  never fault gives = r.faultless fault (given (Err fault) gives)
+
+  cut_by_files : (telling : Telling) (ending : Ending) → ¬ ReadFailed before after → HasCause telling n before after ending → status_of ending ≡ 8
+  cut_by_files telling Usage read h = absurd h
+  cut_by_files telling (Edl name fault) read h = absurd (never (of_edl name fault) h.1)
+  cut_by_files telling (Script name line code) read h = absurd (never (of_script line code) h.1)
+  cut_by_files telling (Unread name) read h = absurd (read h.0)
+  cut_by_files telling (Missing name) read h = absurd (never (NotFound name) h.2)
+  cut_by_files telling (Done text) read h =
+      let cut = r.cut h.machine (given (Ok h.machine) h.gives) in
+      absurd (whole_or_cut h.machine h.told.reported cut.0 h.told.run cut.1)
+  cut_by_files telling (Cut limit) read h = refl
+
+sample_cut : (calls : ℕ) (ending : Ending) → IsTooLong (texts (sample calls)) sample_names → HasSampleCause calls ending → status_of ending ≡ 8
+sample_cut calls ending r h =
+    cut_by_files (texts (sample calls)) sample_names r (sample_files calls) h.after refl summary ending (unfailing calls h.after h.unfailing) h.cause
+
+all_cut : (words : List (List ℕ)) (before after : FilesState) (old new : SinkState) (ending : Ending) → IsOverLimit words before → NothingFailed before after old new → Ends words before after ending
+    → status_of ending ≡ 8
+all_cut words before after old new ending (long_files n store task told r) nothing e =
+    cut_by_files store n r before after told report ending nothing.read (subst (λ (t : Task). EndsBy t before after ending) task e)
+all_cut words before after old new ending (long_sample calls task r) nothing e =
+    let same : (after ≡ before) × HasSampleCause calls ending = subst (λ (t : Task). EndsBy t before after ending) task e in
+    sample_cut calls ending r same.1
+
+-- the answer is that a limit cuts the run, unless memory ran out
+pub over_limit : (words : List (List ℕ)) (before after : FilesState) (old new : SinkState) (status : ℕ) → Answers words before after old new status → IsOverLimit words before → NothingFailed before after old new
+    → OrMemory 6 (λ s. s ≡ 8) status
+over_limit words before after old new status (done text e w) r n = inr (all_cut words before after old new (Done text) r n e)
+over_limit words before after old new status (usage e w) r n = inr (all_cut words before after old new Usage r n e)
+over_limit words before after old new status (edl_fault name fault e w) r n = inr (all_cut words before after old new (Edl name fault) r n e)
+over_limit words before after old new status (script_fault name line code e w) r n = inr (all_cut words before after old new (Script name line code) r n e)
+over_limit words before after old new status (unread name e w) r n = inr (all_cut words before after old new (Unread name) r n e)
+over_limit words before after old new status (refused part failed) r n = absurd (n.taken failed)
+over_limit words before after old new status (out_of_memory part) r n = inl refl
+over_limit words before after old new status (missing name e w) r n = inr (all_cut words before after old new (Missing name) r n e)
+over_limit words before after old new status (full limit e w) r n = inr refl
 
 -- ---- words at their places
 

@@ -1,3 +1,4 @@
-pub mod EndingLaws
 mod SampleEndings
 mod ToldLaws
+pub mod EndingLaws
+pub mod OneAnswer

@@ -51,6 +51,18 @@ pub data IsRunnable (words : List (List ℕ)) (files : FilesState) : Type 0 wher
   by_sample : (calls : ℕ) → task_of words ≡ Sample calls → RunsThrough (texts (sample calls)) sample_names
       → IsRunnable words files
 
+-- what a store has under these names has no fault, and gives a machine whose run a limit cuts
+pub record IsTooLong (store : Store) (n : Names) : Type 0 where
+  pub faultless : (fault : PrepareFault) → ¬ Prepares false store n.paths n.edl n.script (Err fault)
+  pub cut : (m : Machine) → Prepares false store n.paths n.edl n.script (Ok m) → (limit : RunFull) × IsCutBy m limit
+
+-- the words ask for the run of files that are told and need more than a limit, or for a sample that does
+pub data IsOverLimit (words : List (List ℕ)) (files : FilesState) : Type 0 where
+  long_files : (n : Names) (store : Store) → task_of words ≡ Run n → files.contents ≡ Some store → IsTooLong store n
+      → IsOverLimit words files
+  long_sample : (calls : ℕ) → task_of words ≡ Sample calls → IsTooLong (texts (sample calls)) sample_names
+      → IsOverLimit words files
+
 -- no read failed, and the sink took what was written
 pub record NothingFailed (before after : FilesState) (old new : SinkState) : Type 0 where
   pub read : ¬ ReadFailed before after

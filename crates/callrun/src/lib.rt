@@ -1,6 +1,7 @@
 //! The top call of the runner: from words and files to one text and a status.
 #![tactic(auto)]
 
+mod laws;
 mod sample_files;
 mod samples;
 
@@ -11,12 +12,13 @@ ghost use Rattle.call_engine.specs.Prepared.{IsUnprepared};
 ghost use Rattle.callrun.specs.Endings as spec;
 ghost use Rattle.callrun.specs.Endings.{Names, HasCause, EndsBy, Ends};
 ghost use Rattle.callrun.specs.Told.{Telling, report};
-ghost use Rattle.callrun.specs.Answers.{Answers, IsRunnable, NothingFailed};
+ghost use Rattle.callrun.specs.Answers.{Answers, IsRunnable, IsOverLimit, NothingFailed};
 
 use crate::samples::run_sample;
 use call_engine::{PrepareFault, RunFault, prepare, run_machine};
 pub use command_line::MEMORY;
 use command_line::{directories_of, status_after};
+pub use laws::one_answer_law;
 use sgx_base::{
     Fault, Files, Name, Sink, Word, edl_line, missing_line, read_number, script_line, unread_line,
     write_text,
@@ -208,6 +210,9 @@ pub fn callrun<F: Files, O: Sink>(alloc: Global, words: &[Word], files: &mut F, 
     ensures complete { IsRunnable words.now (F.state files.old)
         → NothingFailed (F.state files.old) (F.state files.new) (O.state out.old) (O.state out.new)
         → OrMemory MEMORY (λ status. status ≡ 0) result }
+    ensures over_limit { IsOverLimit words.now (F.state files.old)
+        → NothingFailed (F.state files.old) (F.state files.new) (O.state out.old) (O.state out.new)
+        → OrMemory MEMORY (λ status. status ≡ 8) result }
     ensures kept { AreOnlyRead (F.state files.old) (F.state files.new) }
 {
     let Ok(ending) = run_words(alloc, words, files) else {

@@ -84,7 +84,7 @@ first_in true host address bytes events h mapped = subst (λ es. AreInHost host 
 first_in false host address bytes events h mapped = no_events host events h.1
 
 -- the range of a parameter that has a block is host memory
-abbrev Placed : ℕ → Function → List ℕ → Param → Type 0
+abbrev pub Placed : ℕ → Function → List ℕ → Param → Type 0
 Placed host f frame p = ¬ (copied_length f frame p ≡ 0) → IsMapped host (address_in frame p) (length_in f frame p)
 
 not_null : (b : Bool) (n : ℕ) → ¬ ((if b then 0 else n) ≡ 0) → b ≡ false
@@ -107,7 +107,7 @@ placed_params host f frame (p ∷ params) h = (
   placed_params host f frame params h.1,
 )
 
-all_placed : (host : ℕ) (f : Function) (frame : List ℕ) → first_row (field_rows host f frame) ≡ None → AllByRecursion (Placed host f frame) (marshalled f)
+pub all_placed : (host : ℕ) (f : Function) (frame : List ℕ) → first_row (field_rows host f frame) ≡ None → AllByRecursion (Placed host f frame) (marshalled f)
 all_placed host f frame e =
     placed_params host f frame (marshalled f)
     (none_passes (λ p. not (address_in frame p == 0) && not (is_host_range host (address_in frame p) (length_in f frame p))) (marshalled f) (rows_fail (field_rows host f frame) e).1.0)
@@ -155,7 +155,7 @@ framed false true false e = cc
 framed false false mapped e = cc
 
 -- the frame of an entry that its address allows is host memory
-frame_in : (host : ℕ) (f : Function) (address : ℕ) → IsRunnableFunction true f → first_row (frame_rows host f address) ≡ None → IsMapped host address f.frame_size
+pub frame_in : (host : ℕ) (f : Function) (address : ℕ) → IsRunnableFunction true f → first_row (frame_rows host f address) ≡ None → IsMapped host address f.frame_size
 frame_in host f address runnable e = by_frame (has_frame f) refl (rows_fail (frame_rows host f address) e).1.0
   where
     by_frame : (b : Bool) → has_frame f ≡ b → (b && (address == 0 || not (is_host_range host address f.frame_size))) ≡ false → IsMapped host address f.frame_size

@@ -10,6 +10,7 @@ pub mod Growth
 pub mod HostStack
 pub mod InHost
 pub mod OcallLaws
+pub mod OneRunLaws
 pub mod Protects
 pub mod RefusalLaws
 pub mod ReplyLaws

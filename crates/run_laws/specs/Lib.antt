@@ -3,6 +3,7 @@ pub mod Calls
 pub mod Ecalls
 pub mod Examples
 pub mod Ocalls
+pub mod OneRun
 pub mod Places
 pub mod Protected
 pub mod Reports

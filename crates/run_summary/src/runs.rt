@@ -20,7 +20,7 @@ pub fn summarize(alloc: Global, machine: &Machine) -> Result<String, RunFault>
     ensures full { IfErr result (λ fault. IsRunFault machine.now fault) }
 {
     let mut port = first_port(alloc, machine, STEP_LIMIT)?;
-    let mut tcs = first_tcs(alloc, machine.script.settings)?;
+    let mut tcs = first_tcs(alloc, machine)?;
     let mut records = Records::new(alloc, RECORD_LIMIT)?;
     let ran = run_thread(
         machine,

@@ -1,4 +1,3 @@
 mod EdlText
 mod Foreign
 mod Machines
-mod PlainScripts

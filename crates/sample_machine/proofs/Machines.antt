@@ -7,16 +7,14 @@ use Rattle.edl_reader.specs.Accepted.{IsAccepted, IsRefused, no_layout, broken}
 use Rattle.sgx_base.specs.declared.Fault.{Fault}
 use Rattle.call_machine.specs.declared.Machine.{Machine}
 use Rattle.call_engine.specs.declared.faults.PrepareFault.{PrepareFault}
-use Rattle.call_engine.specs.Taken.{is_taken}
-use Rattle.call_engine.specs.Interfaces.{IsUntaken, broken as breaks, other}
 use Rattle.call_engine.specs.Plain.{plain_script}
-use Rattle.call_engine.specs.Prepared.{HasNoInterface, HasNoScript, in_types, in_script, Prepares, ungathered, no_script, untaken, faulty, machine}
+use Rattle.call_engine.specs.Prepared.{HasNoInterface, HasNoScript, in_types, in_script, Prepares, ungathered, no_script, without_interface, faulty, machine}
 use Rattle.sample_script.specs.Sample.{sample}
 use Rattle.sample_laws.specs.Sampled.{sample_interface}
+use Rattle.sample_laws.proofs.Head.{sample_read}
 use Rattle.sample_machine.specs.Texts.{edl_name, script_name, texts}
 use Rattle.sample_machine.proofs.EdlText.{sample_gathered, gathers, accepts, no_types, layouts_fine}
 use Rattle.sample_machine.proofs.Foreign.{no_foreign}
-use Rattle.sample_machine.proofs.PlainScripts.{sample_plain}
 
 -- the interface is the one that the text has
 interface_is : (foreign : ForeignTypes) (i : Interface) → IsAccepted sample_gathered foreign true i → i ≡ sample_interface
@@ -26,22 +24,17 @@ not_refused : (f : Fault) → IsRefused sample_gathered no_types true f → ⊥
 not_refused f (no_layout e h is) = layouts_fine e h
 not_refused f (broken table laid h) = let e = sym (accepts table) ∙ h in absurd cc
 
-not_untaken : (f : Fault) → IsUntaken sample_gathered no_types f → ⊥
-not_untaken f (breaks h) = not_refused f h
-not_untaken f (other i a taken is) =
-    let e : is_taken sample_interface ≡ false = subst (λ (j : Interface). is_taken j ≡ false) (interface_is no_types i a) taken in absurd cc
-
 has_interface : (n : ℕ) (f : Fault) → HasNoInterface sample_gathered (sample n) f → ⊥
 has_interface n f h =
     let e : Ok h.foreign ≡ Ok no_types = sym h.declared ∙ no_foreign n in
     let same : h.foreign ≡ no_types = cc in
-    not_untaken f (subst (λ (t : ForeignTypes). IsUntaken sample_gathered t f) same h.untaken)
+    not_refused f (subst (λ (t : ForeignTypes). IsRefused sample_gathered t true f) same h.refused)
 
 has_script : (n line code : ℕ) → n ≤ 8000 → HasNoScript false sample_gathered (sample n) line code → ⊥
 has_script n line code few (in_types h) = let e = sym (no_foreign n) ∙ h in absurd cc
 has_script n line code few (in_script i is h) =
-    let same : i ≡ sample_interface = interface_is is.foreign i is.taken.accepted in
-    let e = sym (sample_plain n few) ∙ ap (λ (j : Interface). plain_script j false (sample n)) (sym same) ∙ h in absurd cc
+    let same : i ≡ sample_interface = interface_is is.foreign i is.accepted in
+    let e = sym (sample_read n few) ∙ ap (λ (j : Interface). plain_script j false (sample n)) (sym same) ∙ h in absurd cc
 
 abbrev IsGood : Result Machine PrepareFault → Type 0
 IsGood (Ok m) = Unit {0}
@@ -50,7 +43,7 @@ IsGood (Err fault) = ⊥
 good : (n : ℕ) (answer : Result Machine PrepareFault) → n ≤ 8000 → Prepares false (texts (sample n)) [] edl_name script_name answer → IsGood answer
 good n answer few (ungathered e unread) = let c = sym (gathers (sample n)) ∙ unread.gathered in absurd cc
 good n answer few (no_script g root none) = absurd cc
-good n answer few (untaken g text f root held h) =
+good n answer few (without_interface g text f root held h) =
     let e : Ok g ≡ Ok sample_gathered = sym root ∙ gathers (sample n) in
     let same : g ≡ sample_gathered = cc in
     let t : text ≡ sample n = cc in

@@ -21,7 +21,9 @@ uint64_t outer(const char* text)
 uint64_t inner(uint32_t number)
 {
     record_bytes("in", "number", &number, sizeof(number));
-    return (uint64_t)number * 2;
+    uint64_t twice = (uint64_t)number * 2;
+    tell(twice);
+    return twice;
 }
 
 void other(void)

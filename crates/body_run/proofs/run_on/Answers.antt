@@ -11,6 +11,7 @@ use Rattle.body_run.proofs.run_on.Goals as goal
 pub loop-kind-init : goal.loop-kind-init
 loop-kind-init g c = record {
   next = c.requires.next;
+  from = omega arith;
   count = refl;
   words = refl;
   host = refl;
@@ -36,6 +37,7 @@ make_step-found-requires-clause-used g c =
 pub loop-kind-preserved : goal.loop-kind-preserved
 loop-kind-preserved g c = record {
   next = subst (λ r. r.next ≤ length c.args.body.now.actions) (sym c.answer.ensures) c.in-Cell.ensures.next;
+  from = subst (λ r. c.args.regs.now.next ≤ r.next) (sym c.answer.ensures) (omega (arith, c.loop-kind.invariant.from, c.in-Cell.ensures.further));
   count = c.in-Cell.ensures.count ∙ c.loop-kind.invariant.count;
   words = ap (λ p. p.words) c.make_step-found.ensures ∙ c.loop-kind.invariant.words;
   host = ap (λ p. p.host) c.make_step-found.ensures ∙ c.loop-kind.invariant.host;
@@ -67,3 +69,6 @@ returns-in-Done-clause-ok g c = λ numbers held.
       onward_then (moment c.args.regs.now c.args.blocks.now.items c.args.arena.now) (moment c.loop-kind.regs c.loop-kind.blocks.items c.loop-kind.arena) (moment c.run_until.new.regs c.run_until.new.blocks.items c.run_until.new.arena) numbers later last onward record { held = more.held; kept = more.kept },
       pauses_at _ _ _ _ _ _ _ _ _ led need,
     )
+
+pub returns-in-Ocall-clause-further : goal.returns-in-Ocall-clause-further
+returns-in-Ocall-clause-further g c = omega (arith, c.loop-kind.invariant.from, c.in-Ocall.ensures.further)

@@ -10,6 +10,7 @@ use Rattle.body_run.proofs.run_on.Given as goal
 abbrev pub invariant-loop-kind : goal.invariant-loop-kind
 invariant-loop-kind g l = record {
   next : l.regs.next ≤ length l.body.actions;
+  from : l.initial.regs.next ≤ l.regs.next;
   count : array_vec_len l.blocks ≡ array_vec_len l.initial.blocks;
   words : (g.P.WordPort.state l.port).words ≡ (g.P.WordPort.state l.initial.port).words;
   host : (g.P.WordPort.state l.port).host ≡ (g.P.WordPort.state l.initial.port).host;

@@ -1,6 +1,6 @@
 use Rattle.std.proofs.Common.{inl, refl, ◌∙◌}
 use Rattle.callrun.specs.Answers.{out_of_memory}
-use Rattle.callrun.proofs.EndingLaws.{answered, complete}
+use Rattle.callrun.proofs.EndingLaws.{answered, complete, over_limit}
 use Rattle.callrun.proofs.callrun.Goals as goal
 
 pub returns-in_default-clause-answers : goal.returns-in_default-clause-answers
@@ -19,4 +19,4 @@ returns g c =
     c.in-Ok.ensures.cause (c.as_slice.ensures.value ∙ c.in-Ok-text_of.ensures) c.status.ensures
     c.write_text-written.ensures.whole c.write_text-written.ensures.part c.write_text-written.ensures.failed
     c.status_after.ensures.whole c.status_after.ensures.failed c.status_after.ensures.memory in
-    record { answers = a; complete = complete c.args.words.now before after old new c.status_after.result a; kept = c.run_words.ensures.kept }
+    record { answers = a; complete = complete c.args.words.now before after old new c.status_after.result a; over_limit = over_limit c.args.words.now before after old new c.status_after.result a; kept = c.run_words.ensures.kept }

@@ -1,11 +1,11 @@
-use Rattle.std.proofs.Common.{ℕ, ◌≡◌, ◌+◌, ◌-◌, ◌<◌, List, length, ap, sym, ◌∙◌, refl, arith}
+use Rattle.std.proofs.Common.{◌≡◌, ◌+◌, ◌-◌, ◌<◌, List, length, ap, ◌∙◌, refl, arith}
 use Rattle.std.proofs.lemmas.Result.{err_from_is_err_and}
 use Rattle.word_port.specs.declared.Step.{Step}
 use Rattle.call_report.specs.declared.CallRecord.{CallRecord}
 use Rattle.call_report.specs.RecordList.{records_left}
 use Rattle.call_machine.specs.Context.{depth_of}
 use Rattle.call_machine.specs.Tcs.{TcsState, context_of}
-use Rattle.call_machine.proofs.EcallRecord.{room_for_one}
+use Rattle.call_machine.proofs.RecordPlace.{room_for_one}
 use Rattle.call_machine.proofs.PeekRecord.{peek_unrecorded, peek_stops, peek_ends}
 use Rattle.call_machine.proofs.acts.peek.Goals as goal
 

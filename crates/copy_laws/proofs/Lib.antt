@@ -1,0 +1,9 @@
+pub mod Changes
+pub mod ExactLaws
+pub mod ExactWholes
+pub mod Histories
+pub mod Parts
+pub mod Repeats
+pub mod SameAnswers
+pub mod SameLaws
+pub mod Wholes

@@ -1,0 +1,4 @@
+pub mod Changing
+pub mod Examples
+pub mod Passing
+pub mod Repeating

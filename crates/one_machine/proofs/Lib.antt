@@ -1,0 +1,2 @@
+pub mod OneMachine
+pub mod Tables
