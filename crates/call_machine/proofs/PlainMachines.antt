@@ -1,4 +1,4 @@
--- What is known of a machine that the engine runs: its functions, the words that it begins with and the acts of its thread.
+-- What is known of a machine that the engine runs: its functions, its bridges, the words that it begins with and the acts of its thread.
 use Rattle.std.specs.List.{AllZip}
 use Rattle.std.proofs.Common.{ℕ, zero, suc, refl, ◌≡◌, ◌*◌, ◌≤◌, ◌<◌, ◌^◌, Bool, true, false, if◌then◌else◌, List, [], ◌∷◌, length, take, slice_get, get_or, unwrap_or, Some, All, subst, arith}
 use Rattle.std.proofs.lemmas.List.{get_or-take, length-take-le}
@@ -10,6 +10,8 @@ use Rattle.edl_interface.specs.Sound.{IsSoundFunction}
 use Rattle.edl_interface.specs.Runnable.{IsRunnableFunction}
 use Rattle.word_port.specs.declared.Race.{Race}
 use Rattle.word_port.specs.Plain.{HasBytes, AreInOrder}
+use Rattle.bridge_program.specs.Entry.{Entered, MayEnter}
+use Rattle.bridge_program.specs.Tables.{MayTry}
 use Rattle.call_script.specs.declared.HostAct.{HostAct}
 use Rattle.call_script.specs.declared.Script.{Script}
 use Rattle.call_script.specs.Sound.{OfThread, OfHandler, IsByte, IsSoundRace, IsSoundScript, AreSoundActs}
@@ -65,6 +67,12 @@ pub handler_of : (m : Machine) (plain : IsPlainMachine m) (ordinal : ℕ) (f : F
 handler_of m plain ordinal f found =
     let (acts, there, sound) = handler_at m m.interface.ocalls m.script.handlers ordinal f plain.script.handlers found in
     record { acts = acts; there = there; sound = sound }
+
+-- ---- entries
+
+-- an ECALL that may be entered in the interface may be tried by the machine's bridges
+pub may_try : (m : Machine) (plain : IsPlainMachine m) (stack : List Entered) → MayEnter m.interface stack → MayTry m.bridges stack
+may_try m plain stack may = (m.interface, plain.bridges, may)
 
 -- ---- words
 

@@ -20,11 +20,12 @@ ghost use Rattle.call_machine.specs.Plain.{IsPlainMachine};
 ghost use Rattle.call_machine.specs.Refusal.{AreAllowed, frame_rows};
 ghost use Rattle.call_machine.specs.Tcs.{TcsState, context_of, IsPortOf};
 
-use crate::fields::{check_entry, check_fields, check_frame};
+use crate::fields::{check_fields, check_frame};
 use crate::marshalling::{copy_params, put_params};
 use crate::{Machine, Tcs};
 use arrayvec::ArrayVec;
 use body_vm::{Blocks, Values};
+use bridge_program::entry_check;
 use call_copy::{CopyStop, fetch_range, put_range};
 use edl_interface::Function;
 use enclave_memory::{Arena, Block};
@@ -252,7 +253,7 @@ pub(crate) fn admit<'a, P: WordPort>(
     ensures refused { IfErr result (λ stop. MatchStop stop
         (λ status. OnlyLoads (P.state port.old) (P.state port.new)) (λ full. Unit {0})) }
 {
-    if let Err(status) = check_entry(&machine.interface, &tcs.stack, ordinal) {
+    if let Err(status) = entry_check(&machine.bridges, &tcs.stack, ordinal) {
         return Err(CopyStop::Refused(status));
     }
     let Some(function) = machine.interface.ecalls.get(ordinal as usize) else {

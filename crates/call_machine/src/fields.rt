@@ -1,48 +1,13 @@
-//! What is checked of an entry: its ordinal and the call stack, its frame's address before it is loaded, and the fields
-//! in the frame's one copy.
+//! What is checked of an entry: its frame's address before it is loaded, and the fields in the frame's one copy.
 
-ghost use Rattle.std.specs.Prelude.{◌≡◌, ◌==◌};
+ghost use Rattle.std.specs.Prelude.{◌≡◌};
 ghost use Rattle.std.specs.List.{list_any};
 ghost use Rattle.sgx_base.specs.Rows.{first_row, unless_refused};
-ghost use Rattle.bridge_program.specs.Entry.{MayEnter, entry_rows};
 ghost use Rattle.edl_interface.specs.Parameters.{marshalled};
 ghost use Rattle.call_machine.specs.Refusal.{is_overlong, is_off_host, frame_rows, field_rows};
 
-use bridge_program::CallStack;
-use edl_interface::{Function, Interface, Param};
+use edl_interface::{Function, Param};
 use sgx_base::{Status, host_range};
-
-/// Whether an OCALL allows an ECALL.
-fn allows(function: &Function, ordinal: u32) -> bool
-    ensures { result ≡ list_any (λ k. k == ordinal) function.now.allow }
-{
-    function
-        .allow
-        .as_slice()
-        .iter()
-        .any(|allowed| *allowed == ordinal)
-}
-
-/// Whether the ECALL of an ordinal may be entered, by the table of functions and the call stack.
-pub fn check_entry(interface: &Interface, stack: &CallStack, ordinal: u32) -> Result<(), Status>
-    requires { MayEnter interface.now stack.now }
-    ensures { result ≡ unless_refused (first_row (entry_rows interface.now stack.now ordinal)) }
-{
-    let Some(function) = interface.ecalls.get(ordinal as usize) else {
-        return Err(Status::INVALID_FUNCTION);
-    };
-    let allowed = match stack.current_ocall() {
-        Some(ocall) => allows(&interface.ocalls.as_slice()[ocall as usize], ordinal),
-        None => function.is_public,
-    };
-    if !allowed {
-        Err(Status::ECALL_NOT_ALLOWED)
-    } else if stack.is_full() {
-        Err(Status::STACK_OVERRUN)
-    } else {
-        Ok(())
-    }
-}
 
 /// Whether the function may be entered with a frame at this address, in a host memory of so many bytes.
 pub fn check_frame(function: &Function, host: u32, address: u64) -> Result<(), Status>

@@ -17,6 +17,7 @@ mod strings;
 mod tcs;
 
 pub use acts::run_thread;
+use bridge_program::Bridges;
 use call_script::Script;
 pub use calls::{ecall, ocall};
 use edl_interface::Interface;
@@ -25,17 +26,18 @@ pub use report_laws::one_report_law;
 pub use run::{RECORD_LIMIT, RunFault, STEP_LIMIT, first_acts, first_port, first_tcs, run_machine};
 pub use tcs::Tcs;
 
-/// An interface, and a script for it.
+/// An interface with its bridges, and a script for it.
 #[derive(Debug, Drop)]
 pub struct Machine {
     pub interface: Interface,
+    pub bridges: Bridges,
     pub script: Script,
 }
 
 /// Asks for a type whose values may be moved to other threads and lent to them.
 fn crosses_threads<T: Send + Sync>() {}
 
-/// A machine, with its interface and its script, does.
+/// A machine, with its interface, its bridges and its script, does.
 fn machines_cross_threads() {
     crosses_threads::<Machine>();
 }

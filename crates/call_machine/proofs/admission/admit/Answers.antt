@@ -1,8 +1,15 @@
-use Rattle.call_machine.specs.Tcs.{context_of}
+use Rattle.std.proofs.Common.{sym, subst}
+use Rattle.bridge_program.specs.Entry.{MayEnter}
+use Rattle.call_machine.specs.Tcs.{TcsState, context_of}
 use Rattle.call_machine.proofs.CopyResults.{stop_maps}
 use Rattle.call_machine.proofs.Maps.{err_maps}
+use Rattle.call_machine.proofs.PlainMachines.{may_try}
 use Rattle.call_machine.proofs.RefusedLoads.{refused_only}
 use Rattle.call_machine.proofs.admission.admit.Goals as goal
+
+pub entry_check-requires : goal.entry_check-requires
+entry_check-requires g c =
+    may_try c.args.machine.now c.requires.machine _ (subst (λ (t : TcsState). MayEnter c.args.machine.now.interface t.stack) (sym c.tcs.view_is) c.requires.stack)
 
 pub returns-clause-refused : goal.returns-clause-refused
 returns-clause-refused g c =
