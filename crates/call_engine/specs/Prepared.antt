@@ -12,6 +12,7 @@ use Rattle.edl_reader.specs.Accepted.{IsAccepted, IsRefused}
 use Rattle.edl_reader.specs.declared.faults.SourceFault.{SourceFault}
 use Rattle.edl_reader.specs.Sources.{IsRoot, IsNoRoot, GivesRoot}
 use Rattle.script_reader.specs.Foreign.{foreign_types}
+use Rattle.bridge_program.specs.Tables.{bridges_of}
 use Rattle.call_machine.specs.declared.Machine.{Machine}
 use Rattle.call_engine.specs.declared.faults.PrepareFault.{PrepareFault}
 use Rattle.call_engine.specs.declared.faults.PrepareFault.TheVariants.{Edl, Script, NotFound, ReadFault}
@@ -41,6 +42,7 @@ pub data HasNoScript (racing : Bool) (g : Gathered) (text : List ℕ) (line code
 -- the machine of files that were gathered and of a script's text, for the program with threads or the one without
 pub record IsMachineOf (racing : Bool) (g : Gathered) (text : List ℕ) (m : Machine) : Type 0 where
   pub interface : IsInterface g text m.interface
+  pub bridges : m.bridges ≡ bridges_of m.interface
   pub script : plain_script m.interface racing text ≡ Ok m.script
 
 -- why they give none

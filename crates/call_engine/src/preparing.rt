@@ -16,6 +16,7 @@ use crate::Machine;
 use crate::faults::{PrepareFault, not_found, not_read, of_source};
 use crate::interfaces::accepted;
 use crate::scripts::{foreign_of, script_of};
+use bridge_program::compile;
 use edl_grammar::Gathered;
 use edl_interface::Interface;
 use edl_reader::read_edl;
@@ -88,8 +89,13 @@ fn machine_of(
         (OrMemory PrepareFault.Memory (IsMachineFault racing gathered.now text.now)) }
 {
     let interface = interface_for(alloc, gathered, text)?;
+    let bridges = compile(alloc, &interface)?;
     let script = script_of(alloc, &interface, text, racing)?;
-    Ok(Machine { interface, script })
+    Ok(Machine {
+        interface,
+        bridges,
+        script,
+    })
 }
 
 /// The machine of an EDL file and a script, for the program with threads where `racing` is true. Files are read whole.

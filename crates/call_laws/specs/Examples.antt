@@ -4,12 +4,14 @@ use Rattle.sgx_base.specs.declared.Passing.TheVariants.{Both}
 use Rattle.sgx_base.specs.declared.TheConstants.Status.{INVALID_FUNCTION, INVALID_PARAMETER, UNEXPECTED}
 use Rattle.edl_interface.specs.declared.Class.TheVariants.{Fixed}
 use Rattle.edl_interface.specs.declared.Function.{Function}
+use Rattle.edl_interface.specs.declared.Interface.{Interface}
 use Rattle.word_port.specs.declared.Side.TheVariants.{Enclave}
 use Rattle.word_port.specs.Requests.{step_of, swap_of}
 use Rattle.word_port.specs.Events.{Event, made, placed}
 use Rattle.word_port.specs.Interaction.{ret, IsRun}
 use Rattle.body_vm.specs.declared.Action.TheVariants.{Put, Sum, Return}
 use Rattle.body_vm.specs.declared.Operand.TheVariants.{Number, Reg}
+use Rattle.bridge_program.specs.Tables.{bridges_of}
 use Rattle.call_machine.specs.declared.Machine.{Machine}
 use Rattle.call_machine.specs.Context.{Context}
 use Rattle.call_machine.specs.Ecall.{Ocalls, entered}
@@ -29,10 +31,15 @@ small_function = record {
   frame_size = 16;
 }
 
+-- the interface of it alone
+abbrev pub small_interface : Interface
+small_interface = record { ecalls = small_function ∷ []; ocalls = [] }
+
 -- its body sums the two bytes, puts 9 in place of the first one, and returns the sum
 abbrev pub small_machine : Machine
 small_machine = record {
-  interface = record { ecalls = small_function ∷ []; ocalls = [] };
+  interface = small_interface;
+  bridges = bridges_of small_interface;
   script = record {
     settings = record {
       host = 64;

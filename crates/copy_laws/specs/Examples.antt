@@ -6,6 +6,7 @@ use Rattle.edl_interface.specs.declared.Amount.TheVariants.{Number as fixed, Par
 use Rattle.edl_interface.specs.declared.Class.TheVariants.{Plain as by_value, Buffer}
 use Rattle.edl_interface.specs.declared.Param.{Param}
 use Rattle.edl_interface.specs.declared.Function.{Function}
+use Rattle.edl_interface.specs.declared.Interface.{Interface}
 use Rattle.edl_interface.specs.Lengths.{length_in}
 use Rattle.word_port.specs.Events.{Event, placed, steps_of}
 use Rattle.word_port.specs.History.{race_write, IsLegal, history_of}
@@ -13,6 +14,7 @@ use Rattle.word_port.specs.Interaction.{IsRun}
 use Rattle.body_vm.specs.declared.Action.TheVariants.{Fill, Return}
 use Rattle.body_vm.specs.declared.Operand.TheVariants.{Number}
 use Rattle.call_report.specs.declared.Way.TheVariants.{Ordinary}
+use Rattle.bridge_program.specs.Tables.{bridges_of}
 use Rattle.call_machine.specs.declared.Machine.{Machine}
 use Rattle.call_machine.specs.Result.{Outcome}
 use Rattle.call_machine.specs.Ecall.{ecall_record, ecall_by}
@@ -38,10 +40,15 @@ fill_function = record {
   frame_size = 16;
 }
 
+-- the interface of it alone
+abbrev pub fill_interface : Interface
+fill_interface = record { ecalls = fill_function ∷ []; ocalls = [] }
+
 -- its body fills the block with 9
 abbrev pub fill_machine : Machine
 fill_machine = record small_machine {
-  interface = record { ecalls = fill_function ∷ []; ocalls = [] };
+  interface = fill_interface;
+  bridges = bridges_of fill_interface;
   script = record small_machine.script { bodies = record { actions = Fill 0 (Number 9) ∷ Return (Number 0) ∷ [] } ∷ [] };
 }
 

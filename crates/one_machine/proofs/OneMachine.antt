@@ -5,6 +5,8 @@ use Rattle.edl_grammar.specs.declared.Gathered.{Gathered}
 use Rattle.edl_layout.specs.declared.ForeignTypes.{ForeignTypes}
 use Rattle.edl_interface.specs.declared.Interface.{Interface}
 use Rattle.edl_reader.specs.Accepted.{IsAccepted}
+use Rattle.bridge_program.specs.declared.bridges.Bridges.{Bridges}
+use Rattle.bridge_program.specs.Tables.{bridges_of}
 use Rattle.call_script.specs.declared.Script.{Script}
 use Rattle.call_machine.specs.declared.Machine.{Machine}
 use Rattle.call_engine.specs.Plain.{plain_script}
@@ -31,8 +33,11 @@ one_interface g text i other p q =
 one_of_texts : (racing : Bool) (g : Gathered) (text : List ℕ) (m other : Machine) → IsMachineOf racing g text m → IsMachineOf racing g text other → m ≡ other
 one_of_texts racing g text m other p q =
     let interface_is : m.interface ≡ other.interface = one_interface g text m.interface other.interface p.interface q.interface in
+    let bridges_are : m.bridges ≡ other.bridges = p.bridges ∙ ap bridges_of interface_is ∙ sym q.bridges in
     let script_is : m.script ≡ other.script = one_script interface_is in
-    ap (λ (i : Interface). record { interface = i; script = m.script }) interface_is ∙ ap (λ (s : Script). record { interface = other.interface; script = s }) script_is
+    ap (λ (i : Interface). record { interface = i; bridges = m.bridges; script = m.script }) interface_is
+    ∙ ap (λ (b : Bridges). record { interface = other.interface; bridges = b; script = m.script }) bridges_are
+    ∙ ap (λ (s : Script). record { interface = other.interface; bridges = other.bridges; script = s }) script_is
   where
     one_script : m.interface ≡ other.interface → m.script ≡ other.script
     one_script same = one_value m.script other.script (sym p.script ∙ ap (λ (i : Interface). plain_script i racing text) same ∙ q.script)

@@ -1,11 +1,13 @@
 -- A call that a worker serves, and that makes a call which another worker serves.
 use Rattle.std.specs.Prelude.{true, List, [], ◌∷◌, None, codes}
 use Rattle.edl_interface.specs.declared.Function.{Function}
+use Rattle.edl_interface.specs.declared.Interface.{Interface}
 use Rattle.word_port.specs.declared.Step.{Step}
 use Rattle.word_port.specs.declared.Side.TheVariants.{Pool}
 use Rattle.word_port.specs.Requests.{step_of, load_of, swap_of, cas_of}
 use Rattle.body_vm.specs.declared.Action.TheVariants.{Ocall}
 use Rattle.switchless.specs.Counts.{Completed}
+use Rattle.bridge_program.specs.Tables.{bridges_of}
 use Rattle.call_machine.specs.declared.Machine.{Machine}
 
 -- `public void f(void) transition_using_threads;`
@@ -20,11 +22,16 @@ marked_function = record {
   frame_size = 0;
 }
 
--- one such ECALL, whose body makes the one OCALL; a slot for each pool, and workers; no host memory. Word 0 is the slot
+-- one such ECALL and one such OCALL
+abbrev pub marked_interface : Interface
+marked_interface = record { ecalls = marked_function ∷ []; ocalls = marked_function ∷ [] }
+
+-- the ECALL, whose body makes the OCALL; a slot for each pool, and workers; no host memory. Word 0 is the slot
 -- for ECALLs, word 1 that for OCALLs, and word 2 ends the workers
 abbrev pub pooled_machine : Machine
 pooled_machine = record {
-  interface = record { ecalls = marked_function ∷ []; ocalls = marked_function ∷ [] };
+  interface = marked_interface;
+  bridges = bridges_of marked_interface;
   script = record {
     settings = record {
       host = 0;
