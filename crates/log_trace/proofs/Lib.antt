@@ -1,0 +1,3 @@
+mod Lines
+mod Logs
+mod Steps
