@@ -7,7 +7,7 @@ ghost use Rattle.log_trace.specs.Trace as spec;
 mod text_laws;
 
 use std::alloc::{AllocError, Global};
-pub use text_laws::{examples, logs_of_trace_law, one_log_law};
+pub use text_laws::{all_logs_law, examples, one_log_law};
 use word_port::{Kind, Side, Step};
 
 /// The letter of who makes a step.
