@@ -1,0 +1,3 @@
+pub mod RacerActs
+pub mod RacerRuns
+pub mod RacerSteps
