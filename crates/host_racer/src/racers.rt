@@ -12,12 +12,14 @@ use call_copy::put_range;
 use call_script::{HostAct, Place};
 use word_port::{RunFull, Side, WordPort};
 
-/// Writes bytes from an address on.
+/// Writes bytes from an address on, all in host memory.
 fn poke<P: WordPort>(port: &mut P, place: Place, bytes: &[u8]) -> Result<(), RunFull>
     requires { IsAimed (P.state port.old).host place (length bytes.now) }
-    ensures ok { OnOk result (Makes (act_of (racer (P.state port.old).host) (HostAct.Poke place bytes.now) SUCCESS)
+    ensures ok { OnOk result (Makes
+        (act_of (racer (P.state port.old).host) (HostAct.Poke place bytes.now) SUCCESS)
         (P.state port.old) (P.state port.new) raced) }
-    ensures full { IfErr result (IsCutShort (act_of (racer (P.state port.old).host) (HostAct.Poke place bytes.now) SUCCESS)
+    ensures full { IfErr result (IsCutShort
+        (act_of (racer (P.state port.old).host) (HostAct.Poke place bytes.now) SUCCESS)
         (P.state port.old) (P.state port.new)) }
 {
     let Place::At(address) = place else {
