@@ -1,3 +1,4 @@
 pub mod RacerActs
 pub mod RacerRuns
 pub mod RacerSteps
+pub mod RacerWrites

@@ -29,7 +29,7 @@ same_host t rest old now p = ap (λ (s : PortState). s.host) p.grown
 -- ---- pokes
 
 -- where all bytes are in host memory none is passed over
-all_mapped : (host at : ℕ) (bytes : List ℕ) → IsTrue (is_mapped host at (length bytes)) → stores Racer at bytes ≡ mapped_stores Racer host at bytes
+pub all_mapped : (host at : ℕ) (bytes : List ℕ) → IsTrue (is_mapped host at (length bytes)) → stores Racer at bytes ≡ mapped_stores Racer host at bytes
 all_mapped host at [] h = refl
 all_mapped host at (b ∷ bytes) h =
     let first : is_mapped host at 1 ≡ true = grind arith in

@@ -4,5 +4,5 @@
 mod racer_laws;
 mod racers;
 
-pub use racer_laws::{racer_steps_law, sound_racers_law};
+pub use racer_laws::{racer_steps_law, racer_writes_law, sound_racers_law};
 pub use racers::run_racer;
